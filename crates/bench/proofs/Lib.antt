@@ -1,0 +1,7 @@
+pub mod Checked
+pub mod Turns
+pub mod Follow
+pub mod Records
+pub mod Lists
+pub mod Loops
+pub mod Examples

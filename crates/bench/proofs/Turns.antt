@@ -1,0 +1,117 @@
+-- Turns: what is known of a record that counts or is a repeat.
+-- Assumes nothing.
+use mathlib.Core.Path.{_≡_, refl, sym, ap, _∙_}
+use mathlib.Core.Bool.{Bool, true, false, not, _&&_, _||_}
+use mathlib.Core.Logic.{_⊎_, inl, inr}
+use mathlib.Core.List.{List, [], _∷_}
+use Prim.Native.Nat.{ℕ, _+_, _^_, _<_}
+use native.Mathlib.Omega.{arith}
+use lib.Dec.{eqb}
+use lib.ListN.{length}
+use borrow.Author.Tests.{leb-false, eqb-true, eqb-false, eq-eqb, not-false}
+use Rattle.katan.specs.Bit.{pick}
+use Rattle.katan.specs.Variant.{widthOf}
+use Rattle.katan.specs.Checks.{Outcome, value, checked}
+use Rattle.record.specs.Fields.{sameBytes, laneCount, recordLength, kind, lane, count, block, number}
+use Rattle.record.specs.Checks.{nonzero, wrongCount, fieldChecks, lengthCheck}
+use Rattle.record.proofs.Same.{same-equal}
+use Rattle.record.proofs.Parts.{number-below}
+use Rattle.bench.specs.Checks.{LaneView, View, benchCheck, turnChecks, arrivalChecks, Turn, counts, repeats, turnOf, decision}
+use Rattle.bench.specs.Claim.{OnlyRepeats}
+use Rattle.bench.proofs.Checked.{NoFault, all-passed, checked-append}
+
+-- ---- the tests of checks 9 and 10
+
+-- check 9 finds no fault
+in-turn : (n last : ℕ) → not (eqb n (last + 1) || nonzero last && eqb n last) ≡ false → (n ≡ last + 1) ⊎ ((n ≡ last) × (0 < last))
+in-turn n last e = go (eqb n (last + 1)) (eqb last 0) (eqb n last) refl refl refl e
+  where
+    go : (a b c : Bool) → eqb n (last + 1) ≡ a → eqb last 0 ≡ b → eqb n last ≡ c → not (a || not b && c) ≡ false → (n ≡ last + 1) ⊎ ((n ≡ last) × (0 < last))
+    go true b c p q r f = inl (eqb-true n (last + 1) p)
+    go false false true p q r f = let h : last ≡ 0 → ⊥ = eqb-false last 0 q in inr (eqb-true n last r, omega arith)
+    go false true c p q r f = let z : _≡_ {A = ℕ} 0 1 = cc in absurd (omega arith)
+    go false false false p q r f = let z : _≡_ {A = ℕ} 0 1 = cc in absurd (omega arith)
+
+-- check 10 finds no fault
+same-record : (n last : ℕ) (latest s : List ℕ) → (eqb n last && not (sameBytes latest s)) ≡ false → n ≡ last → s ≡ latest
+same-record n last latest s e h = sym (same-equal latest s (not-false (sameBytes latest s) (rw (eq-eqb n last h) at e)))
+
+-- ---- a record that meets none of 1 to 10
+
+pub record Accepted (w : View) (s : List ℕ) : Type 0 where
+  pub size : length s ≡ recordLength
+  pub lane-in : lane s < laneCount
+  pub count-in : wrongCount (kind s) (count s) ≡ false
+  pub block-in : block s < 2 ^ widthOf (w .variant)
+  pub turn : (number s ≡ w .last + 1) ⊎ ((number s ≡ w .last) × (0 < w .last))
+  pub same : number s ≡ w .last → s ≡ w .latest
+
+module _ (w : View) (s : List ℕ) where
+  pub accepted : NoFault (arrivalChecks w s) → Accepted w s
+  unfolding arrivalChecks
+  accepted z =
+      let after-4 = z .1 .1 .1 .1 in
+      let after-8 = after-4 .1 .1 .1 .1 in
+      record {
+        size = eqb-true (length s) recordLength (not-false (eqb (length s) recordLength) (z .1 .0));
+        lane-in = leb-false laneCount (lane s) (after-4 .0);
+        count-in = after-4 .1 .0;
+        block-in = leb-false (2 ^ widthOf (w .variant)) (block s) (after-4 .1 .1 .0);
+        turn = in-turn (number s) (w .last) (after-8 .0);
+        same = same-record (number s) (w .last) (w .latest) s (after-8 .1 .0);
+      }
+
+  -- it counts if numbered last + 1
+  pub counts-next : decision w s ≡ value counts → Accepted w s × (number s ≡ w .last + 1)
+  unfolding decision
+  counts-next e =
+      let a = all-passed counts (arrivalChecks w s) (value (turnOf (w .last) s)) e in
+      (accepted (a .0), go (eqb (number s) (w .last + 1)) refl (a .1))
+    where
+      go : (b : Bool) → eqb (number s) (w .last + 1) ≡ b → value (pick b counts repeats) ≡ value counts → number s ≡ w .last + 1
+      go true p q = eqb-true (number s) (w .last + 1) p
+      go false p q = let z : _≡_ {A = ℕ} 0 1 = cc in absurd (omega arith)
+
+  -- and is otherwise a repeat, of the latest and of a nonzero number
+  pub record IsRepeat : Type 0 where
+    pub is-last : number s ≡ w .last
+    pub some : 0 < w .last
+    pub is-latest : s ≡ w .latest
+
+  pub repeats-last : decision w s ≡ value repeats → IsRepeat
+  unfolding decision
+  repeats-last e =
+      let a = all-passed repeats (arrivalChecks w s) (value (turnOf (w .last) s)) e in
+      go (eqb (number s) (w .last + 1)) refl (a .1) (accepted (a .0) .turn) (accepted (a .0) .same)
+    where
+      go : (b : Bool) → eqb (number s) (w .last + 1) ≡ b → value (pick b counts repeats) ≡ value repeats
+          → (number s ≡ w .last + 1) ⊎ ((number s ≡ w .last) × (0 < w .last)) → (number s ≡ w .last → s ≡ w .latest) → IsRepeat
+      go true p q t same = let z : _≡_ {A = ℕ} 0 1 = cc in absurd (omega arith)
+      go false p q (inl t) same = absurd (eqb-false (number s) (w .last + 1) p t)
+      go false p q (inr t) same = record { is-last = t .0; some = t .1; is-latest = same (t .0) }
+
+-- ---- the checks in parts: 1 and 2, 3 to 8, 9 and 10
+
+pub decision-parts : (w : View) (s : List ℕ) → decision w s
+    ≡ checked (benchCheck (w .variant) (w .lanes) ∷ lengthCheck s ∷ [])
+    (checked (fieldChecks (w .variant) s) (checked (turnChecks (w .last) (w .latest) s) (value (turnOf (w .last) s))))
+unfolding decision arrivalChecks
+decision-parts w s =
+    checked-append (benchCheck (w .variant) (w .lanes) ∷ lengthCheck s ∷ fieldChecks (w .variant) s) (turnChecks (w .last) (w .latest) s) (value (turnOf (w .last) s))
+
+same-turn : (xs ys s : List ℕ) (r : Outcome Turn) (b : Bool) → eqb (number s) 0 ≡ b → checked (turnChecks 0 xs s) r ≡ checked (turnChecks 0 ys s) r
+same-turn xs ys s r true e = let n : number s ≡ 0 = eqb-true (number s) 0 e in rw n
+same-turn xs ys s r false e = rw e
+
+-- while none has counted, what stands for the latest is not looked at
+pub no-latest : (v : ℕ) (lanes : List LaneView) (xs ys s : List ℕ)
+    → decision (record { variant = v; lanes = lanes; last = 0; latest = xs }) s ≡ decision (record { variant = v; lanes = lanes; last = 0; latest = ys }) s
+no-latest v lanes xs ys s =
+    decision-parts (record { variant = v; lanes = lanes; last = 0; latest = xs }) s
+    ∙ ap (λ (o : Outcome Turn). checked (benchCheck v lanes ∷ lengthCheck s ∷ []) (checked (fieldChecks v s) o)) (same-turn xs ys s (value (turnOf 0 s)) (eqb (number s) 0) refl)
+    ∙ sym (decision-parts (record { variant = v; lanes = lanes; last = 0; latest = ys }) s)
+
+-- THEOREM: at last = 4,294,967,295 only a repeat is in turn
+pub only-repeats : OnlyRepeats
+only-repeats w s bytes last counts e = absurd (omega (arith, counts-next w s e .1, number-below s bytes))
+only-repeats w s bytes last repeats e = (refl, repeats-last w s e .is-latest)

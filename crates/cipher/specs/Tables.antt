@@ -1,0 +1,33 @@
+-- What the private functions say of tables and runs. No promise of a public function cites it.
+-- Assumes nothing.
+use Prim.Native.Nat.{ℕ, _+_, _-_, _*_, _<_}
+use mathlib.Core.Path.{_≡_}
+use mathlib.Core.List.{List}
+use lib.Dec.{leb}
+use lib.ListN.{getD}
+use Rattle.katan.specs.Bit.{bit, pick}
+use Rattle.katan.specs.Counter.{irOf}
+use Rattle.katan.specs.Key.{k, keyBitNumber}
+use Rattle.katan.specs.Variant.{isKatan}
+use Rattle.katan.specs.Clock.{run, unrun, block, registers}
+use Rattle.katan.specs.declared.Row.{Row}
+use Rattle.katan.specs.declared.RoundInput.{RoundInput}
+
+-- the first n entries of a list go by a rule
+abbrev pub Entries : (ℕ → ℕ) → ℕ → List ℕ → Type 0
+Entries f n xs = (i : ℕ) → i < n → getD xs i 0 ≡ f i
+
+abbrev pub AreBits : List ℕ → Type 0
+AreBits xs = (i : ℕ) → getD xs i 0 < 2
+
+-- the key bits of all rounds, ka and then kb
+abbrev pub roundKeyBit : ℕ → ℕ → ℕ → ℕ
+roundKeyBit v key i = pick (isKatan v) (k key i) (bit key (keyBitNumber i))
+
+-- the input of round r, from T of each round and the key bits of all rounds
+abbrev pub tableInput : List ℕ → List ℕ → ℕ → RoundInput
+tableInput counters keys r = record { ir = irOf (getD counters r 0); ka = getD keys (2 * r) 0; kb = getD keys (2 * r + 1) 0 }
+
+-- the registers at position p of x loaded at q, with u r the input of round r
+abbrev pub registersBy : Row → (ℕ → RoundInput) → ℕ → ℕ → ℕ → ℕ
+registersBy v u q x p = pick (leb q p) (block v (run v u q (p - q) (registers v x))) (block v (unrun v u p (q - p) (registers v x)))

@@ -1,0 +1,9 @@
+pub mod Bits
+pub mod Tables
+pub mod Bytes
+pub mod Variants
+pub mod Keys
+pub mod Shift
+pub mod Undo
+pub mod Positions
+pub mod Starred

@@ -1,0 +1,70 @@
+-- Check 1 of a variant number, the row that goes with it, and the first fault found.
+-- Assumes nothing.
+use mathlib.Core.Path.{_≡_, refl, sym, ap, _∙_}
+use mathlib.Core.Bool.{Bool, true, false}
+use mathlib.Core.List.{List, [], _∷_}
+use Prim.Native.Nat.{ℕ, zero, suc, _<_, _≤_}
+use native.Mathlib.Omega.{arith}
+use borrow.Author.Tests.{ltb-false, leb-true, lt-ltb, le-leb}
+use lib.Dec.{leb, ltb}
+use Rattle.katan.specs.Bit.{pick}
+use Rattle.katan.specs.Variant.{rowOf}
+use Rattle.katan.specs.Checks.{numberOf, Outcome, value, refused, Check, checked, variantCheck}
+use Rattle.katan.specs.Rows.{rowOutcome, rowAnswer}
+use Rattle.katan.specs.declared.Row.{Row}
+use Rattle.katan.specs.declared.Refusal.{Refusal}
+use Rattle.katan.specs.declared.RowAnswer.{RowAnswer}
+use Rattle.katan.specs.declared.RowAnswer.the-variants.{Found, Refused}
+
+-- ---- the first fault found
+
+module _ {A : Type 0} (c : Check) (cs : List Check) (r : Outcome A) where
+  pub fault-first : c .fault ≡ true → checked (c ∷ cs) r ≡ refused (c .number)
+  fault-first e = ap (λ (b : Bool). pick b (refused (c .number)) (checked cs r)) e
+
+  pub fault-later : c .fault ≡ false → checked (c ∷ cs) r ≡ checked cs r
+  fault-later e = ap (λ (b : Bool). pick b (refused (c .number)) (checked cs r)) e
+
+-- ---- check 1 of a variant number
+
+no-variant : (v : ℕ) → (v ≡ 1 → ⊥) → (v ≡ 2 → ⊥) → (v ≡ 3 → ⊥) → (v ≡ 4 → ⊥) → (v ≡ 5 → ⊥) → (v ≡ 6 → ⊥) → variantCheck v .fault ≡ true
+no-variant zero a b c d e f = refl
+no-variant (suc zero) a b c d e f = absurd (a refl)
+no-variant (suc (suc zero)) a b c d e f = absurd (b refl)
+no-variant (suc (suc (suc zero))) a b c d e f = absurd (c refl)
+no-variant (suc (suc (suc (suc zero)))) a b c d e f = absurd (d refl)
+no-variant (suc (suc (suc (suc (suc zero))))) a b c d e f = absurd (e refl)
+no-variant (suc (suc (suc (suc (suc (suc zero)))))) a b c d e f = absurd (f refl)
+no-variant (suc (suc (suc (suc (suc (suc (suc v))))))) a b c d e f =
+    rw (le-leb 1 (suc (suc (suc (suc (suc (suc (suc v))))))) (omega arith), lt-ltb 6 (suc (suc (suc (suc (suc (suc (suc v))))))) (omega arith))
+
+pub over-six-or-none : (v : ℕ) → (v ≡ 1 → ⊥) → (v ≡ 2 → ⊥) → (v ≡ 3 → ⊥) → (v ≡ 4 → ⊥) → (v ≡ 5 → ⊥) → (v ≡ 6 → ⊥) → refused 1 ≡ rowAnswer v
+over-six-or-none v a b c d e f = sym (fault-first (variantCheck v) [] (value (rowOf v)) (no-variant v a b c d e f))
+
+-- what it means that check 1 finds no fault
+pub record IsVariant (v : ℕ) (r : Row) : Type 0 where
+  pub no-fault : variantCheck v .fault ≡ false
+  pub is-row : r ≡ rowOf v
+  pub least : 1 ≤ v
+  pub most : v ≤ 6
+
+passed : (r w : Row) (b : Bool) → value r ≡ pick b (refused 1) (value w) → (b ≡ false) × (r ≡ w)
+passed r w true e = let z : _≡_ {A = ℕ} 0 1 = cc in absurd (omega arith)
+passed r w false e = (refl, cc)
+
+failed : (n : ℕ) (w : Row) (b : Bool) → refused n ≡ pick b (refused 1) (value w) → (b ≡ true) × (n ≡ 1)
+failed n w true e = (refl, cc)
+failed n w false e = let z : _≡_ {A = ℕ} 0 1 = cc in absurd (omega arith)
+
+within : (v : ℕ) (b : Bool) → leb 1 v ≡ b → pick b (ltb 6 v) true ≡ false → (1 ≤ v) × (v ≤ 6)
+within v true e f = (leb-true 1 v e, ltb-false 6 v f)
+within v false e f = let z : _≡_ {A = ℕ} 0 1 = cc in absurd (omega arith)
+
+pub row-found : (v : ℕ) (a : RowAnswer) (r : Row) → rowOutcome a ≡ rowAnswer v → a ≡ Found r → IsVariant v r
+row-found v a r e f =
+    let g = passed r (rowOf v) (variantCheck v .fault) (ap rowOutcome (sym f) ∙ e) in
+    let w = within v (leb 1 v) refl (g .0) in
+    record { no-fault = g .0; is-row = g .1; least = w .0; most = w .1 }
+
+pub row-refused : (v : ℕ) (a : RowAnswer) (r : Refusal) → rowOutcome a ≡ rowAnswer v → a ≡ Refused r → (variantCheck v .fault ≡ true) × (numberOf r ≡ 1)
+row-refused v a r e f = failed (numberOf r) (rowOf v) (variantCheck v .fault) (ap rowOutcome (sym f) ∙ e)

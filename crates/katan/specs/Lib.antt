@@ -1,0 +1,10 @@
+pub mod Bit
+pub mod Counter
+pub mod Variant
+pub mod Key
+pub mod Clock
+pub mod Machine
+pub mod Checks
+pub mod Rows
+pub mod Within
+pub mod Cases

@@ -1,0 +1,237 @@
+// The KATAN and KTANTAN ciphers: types, tables, and, in specs/, their definitions.
+ghost use mathlib.Core.Path.{_≡_};
+ghost use Prim.Native.Nat.{_*_, _<_};
+ghost use lib.ListN.{getD, take};
+ghost use Rattle.katan.specs.Bit.{numberIn, tabulate};
+ghost use Rattle.katan.specs.Counter.{counter, rounds};
+ghost use Rattle.katan.specs.Key.{keyBitNumber, keyNumber};
+ghost use Rattle.katan.specs.Variant.{row32, row48, row64};
+ghost use Rattle.katan.specs.Checks.{numberOf};
+ghost use Rattle.katan.specs.Rows.{rowOutcome, rowAnswer};
+
+mod constants;
+
+// The rounds are 0 to 253.
+pub const ROUNDS: u8 = 254;
+
+// A row of the variants' table: the block's width, the registers' lengths, the taps of fa and fb, the clocks a round.
+pub struct Row {
+    pub n: usize,
+    pub len1: usize,
+    pub len2: usize,
+    pub x1: usize,
+    pub x2: usize,
+    pub x3: usize,
+    pub x4: usize,
+    pub x5: usize,
+    pub y1: usize,
+    pub y2: usize,
+    pub y3: usize,
+    pub y4: usize,
+    pub y5: usize,
+    pub y6: usize,
+    pub clocks: u32,
+}
+
+// L1 and L2.
+pub struct Registers {
+    pub l1: u64,
+    pub l2: u64,
+}
+
+// What all clocks of a round share.
+pub struct RoundInput {
+    pub ir: u64,
+    pub ka: u64,
+    pub kb: u64,
+}
+
+// How many rounds a block has behind it, 0 to 254.
+pub struct RoundPosition(pub u8);
+
+// How many clocks lie before a clock, from 0.
+pub struct ClockNumber(pub usize);
+
+// A key of 80 bits: bits 0 to 63, and 64 to 79.
+pub struct Key {
+    pub low: u64,
+    pub high: u16,
+}
+
+// Document 01's "Turned away", 1 to 13 in its order.
+pub enum Refusal {
+    BadVariant,
+    BadLength,
+    BadKind,
+    FieldNotZero,
+    BadLane,
+    BadPosition,
+    BadBlock,
+    EmptyMask,
+    OutOfTurn,
+    OtherBytes,
+    EmptyLane,
+    BadRate,
+    BadForm,
+}
+
+pub fn refusal_number(r: Refusal) -> u8
+    ensures { λ k. ⌜ k ≡ numberOf r ⌝ }
+{
+    match r {
+        Refusal::BadVariant => 1,
+        Refusal::BadLength => 2,
+        Refusal::BadKind => 3,
+        Refusal::FieldNotZero => 4,
+        Refusal::BadLane => 5,
+        Refusal::BadPosition => 6,
+        Refusal::BadBlock => 7,
+        Refusal::EmptyMask => 8,
+        Refusal::OutOfTurn => 9,
+        Refusal::OtherBytes => 10,
+        Refusal::EmptyLane => 11,
+        Refusal::BadRate => 12,
+        Refusal::BadForm => 13,
+    }
+}
+
+// The row of KATAN32 and KTANTAN32.
+pub fn row_32() -> Row
+    ensures { λ r. ⌜ r ≡ row32 ⌝ }
+{
+    Row {
+        n: 32,
+        len1: 13,
+        len2: 19,
+        x1: 12,
+        x2: 7,
+        x3: 8,
+        x4: 5,
+        x5: 3,
+        y1: 18,
+        y2: 7,
+        y3: 12,
+        y4: 10,
+        y5: 8,
+        y6: 3,
+        clocks: 1,
+    }
+}
+
+// The row of KATAN48 and KTANTAN48.
+pub fn row_48() -> Row
+    ensures { λ r. ⌜ r ≡ row48 ⌝ }
+{
+    Row {
+        n: 48,
+        len1: 19,
+        len2: 29,
+        x1: 18,
+        x2: 12,
+        x3: 15,
+        x4: 7,
+        x5: 6,
+        y1: 28,
+        y2: 19,
+        y3: 21,
+        y4: 13,
+        y5: 15,
+        y6: 6,
+        clocks: 2,
+    }
+}
+
+// The row of KATAN64 and KTANTAN64.
+pub fn row_64() -> Row
+    ensures { λ r. ⌜ r ≡ row64 ⌝ }
+{
+    Row {
+        n: 64,
+        len1: 25,
+        len2: 39,
+        x1: 24,
+        x2: 15,
+        x3: 20,
+        x4: 11,
+        x5: 9,
+        y1: 38,
+        y2: 25,
+        y3: 33,
+        y4: 21,
+        y5: 14,
+        y6: 9,
+        clocks: 3,
+    }
+}
+
+// The byte at a place, 0 past the end.
+fn byte_at(bytes: &[u8], i: usize) -> u64
+    ensures { λ r. ⌜ (r ≡ getD (now (bytes .entry)) i 0) × (r < 256) ⌝ }
+{
+    if i < bytes.len() { bytes[i] as u64 } else { 0 }
+}
+
+// The number in the first 8 bytes.
+pub fn word_of(bytes: &[u8]) -> u64
+    ensures { λ r. ⌜ r ≡ numberIn (take 8 (now (bytes .entry))) ⌝ }
+{
+    let high = byte_at(bytes, 4)
+        + 256 * (byte_at(bytes, 5) + 256 * (byte_at(bytes, 6) + 256 * byte_at(bytes, 7)));
+    let low = byte_at(bytes, 0)
+        + 256 * (byte_at(bytes, 1) + 256 * (byte_at(bytes, 2) + 256 * byte_at(bytes, 3)));
+    high * 4294967296 + low
+}
+
+// The key in the first 10 bytes.
+pub fn key_of(bytes: &[u8]) -> Key
+    ensures { λ r. ⌜ keyNumber r ≡ numberIn (take 10 (now (bytes .entry))) ⌝ }
+{
+    let high = byte_at(bytes, 8) + 256 * byte_at(bytes, 9);
+    Key {
+        low: word_of(bytes),
+        high: high as u16,
+    }
+}
+
+// What a call for a variant's row answers.
+pub enum RowAnswer {
+    Found(Row),
+    Refused(Refusal),
+}
+
+pub fn row_of(variant: u8) -> RowAnswer
+    ensures { λ r. ⌜ rowOutcome r ≡ rowAnswer variant ⌝ }
+{
+    match variant {
+        1 => RowAnswer::Found(row_32()),
+        2 => RowAnswer::Found(row_48()),
+        3 => RowAnswer::Found(row_64()),
+        4 => RowAnswer::Found(row_32()),
+        5 => RowAnswer::Found(row_48()),
+        6 => RowAnswer::Found(row_64()),
+        _ => RowAnswer::Refused(Refusal::BadVariant),
+    }
+}
+
+// The first clock of the round at a position: a position becomes a clock number only through the row's clocks a round.
+pub fn first_clock(row: Row, at: RoundPosition) -> ClockNumber
+    ensures { λ r. ⌜ r .0 ≡ row .clocks * at .0 ⌝ }
+{
+    let clocks = row.clocks as usize;
+    let rounds = at.0 as usize;
+    ClockNumber(clocks * rounds)
+}
+
+// T of each round.
+pub fn counters() -> [u8; 254]
+    ensures { λ r. ⌜ r ≡ tabulate counter 0 rounds ⌝ }
+{
+    constants::COUNTERS
+}
+
+// The KTANTAN key bit numbers, ka's and kb's of each round.
+pub fn key_bit_numbers() -> [u8; 508]
+    ensures { λ r. ⌜ r ≡ tabulate keyBitNumber 0 (2 * rounds) ⌝ }
+{
+    constants::KEY_BIT_NUMBERS
+}

@@ -1,0 +1,131 @@
+// The checks of a record's fields, kind by kind, each in the order of its numbers: the first fault found is answered.
+ghost use mathlib.Core.Path.{_≡_};
+ghost use Prim.Native.Nat.{ℕ, _^_};
+ghost use lib.Dec.{leb};
+ghost use Rattle.katan.specs.Variant.{widthOf};
+ghost use Rattle.katan.specs.Checks.{value, checked};
+ghost use Rattle.record.specs.Fields.{load, forward, clear};
+ghost use Rattle.record.specs.Checks.{zeroBytes, loadFields, checksOf};
+ghost use Rattle.record.specs.Answers.{fieldOutcome};
+use crate::FieldAnswer;
+use crate::LANES;
+use crate::block_of;
+use crate::bytes::byte_at;
+use crate::bytes::word_in;
+use crate::count_of;
+use crate::key_in;
+use crate::lane_of;
+use crate::mask_of;
+use katan::Refusal;
+use katan::RowAnswer;
+
+// The width of a variant's blocks; KATAN32's where there is no such variant.
+fn width_of(variant: u8) -> usize
+    ensures { λ r. ⌜ r ≡ widthOf variant ⌝ }
+{
+    match katan::row_of(variant) {
+        RowAnswer::Found(row) => row.n,
+        RowAnswer::Refused(_) => katan::row_32().n,
+    }
+}
+
+// Whether a word is 2^n or more.
+fn too_wide(n: usize, x: u64) -> bool
+    ensures { λ r. ⌜ r ≡ leb (2 ^ n) x ⌝ }
+{
+    if n < 64 { (1 << n) <= x } else { false }
+}
+
+// Whether a byte that is zero in every record is not.
+fn zero_bytes(sent: &[u8]) -> bool
+    ensures { λ r. ⌜ r ≡ zeroBytes (now (sent .entry)) ⌝ }
+{
+    if byte_at(sent, 3) != 0 {
+        return true;
+    }
+    word_in(sent, 34, 6) != 0
+}
+
+// Whether a field that only a load uses is not zero.
+fn load_fields(sent: &[u8]) -> bool
+    ensures { λ r. ⌜ r ≡ loadFields (now (sent .entry)) ⌝ }
+{
+    if lane_of(sent) != 0 {
+        return true;
+    }
+    let key = key_in(sent);
+    if key.low != 0 {
+        return true;
+    }
+    if key.high != 0 {
+        return true;
+    }
+    block_of(sent) != 0
+}
+
+// A load: the mask is unused.
+pub fn load_fault(variant: u8, sent: &[u8]) -> FieldAnswer
+    ensures { λ r. ⌜ fieldOutcome r ≡ checked (checksOf load variant (now (sent .entry))) (value tt) ⌝ }
+{
+    if zero_bytes(sent) {
+        return FieldAnswer::Refused(Refusal::FieldNotZero);
+    }
+    if mask_of(sent) != 0 {
+        return FieldAnswer::Refused(Refusal::FieldNotZero);
+    }
+    let lane = lane_of(sent) as usize;
+    let position = count_of(sent);
+    let wide = too_wide(width_of(variant), block_of(sent));
+    if LANES <= lane {
+        return FieldAnswer::Refused(Refusal::BadLane);
+    }
+    if katan::ROUNDS < position {
+        return FieldAnswer::Refused(Refusal::BadPosition);
+    }
+    if wide {
+        return FieldAnswer::Refused(Refusal::BadBlock);
+    }
+    FieldAnswer::Sound
+}
+
+// A move, either way: once check 4 finds no fault, lane and block are zero, so 5 and 7 find none on any bench.
+pub fn move_fault(sent: &[u8]) -> FieldAnswer
+    ensures { λ r. ⌜ ((v : ℕ) → fieldOutcome r ≡ checked (checksOf forward v (now (sent .entry))) (value tt)) ⌝ }
+{
+    if zero_bytes(sent) {
+        return FieldAnswer::Refused(Refusal::FieldNotZero);
+    }
+    if load_fields(sent) {
+        return FieldAnswer::Refused(Refusal::FieldNotZero);
+    }
+    let count = count_of(sent);
+    if count == 0 {
+        return FieldAnswer::Refused(Refusal::BadPosition);
+    }
+    if katan::ROUNDS < count {
+        return FieldAnswer::Refused(Refusal::BadPosition);
+    }
+    if mask_of(sent) == 0 {
+        return FieldAnswer::Refused(Refusal::EmptyMask);
+    }
+    FieldAnswer::Sound
+}
+
+// A clear: as a move, but its count is unused.
+pub fn clear_fault(sent: &[u8]) -> FieldAnswer
+    ensures { λ r. ⌜ ((v : ℕ) → fieldOutcome r ≡ checked (checksOf clear v (now (sent .entry))) (value tt)) ⌝ }
+{
+    if zero_bytes(sent) {
+        return FieldAnswer::Refused(Refusal::FieldNotZero);
+    }
+    if count_of(sent) != 0 {
+        return FieldAnswer::Refused(Refusal::FieldNotZero);
+    }
+    if load_fields(sent) {
+        return FieldAnswer::Refused(Refusal::FieldNotZero);
+    }
+    if mask_of(sent) == 0 {
+        return FieldAnswer::Refused(Refusal::EmptyMask);
+    }
+    FieldAnswer::Sound
+}

@@ -1,0 +1,104 @@
+// A record: its fields, the checks 3 to 8 of them, and whether two records have the same bytes.
+ghost use mathlib.Core.Path.{_≡_};
+ghost use lib.ListN.{getD};
+ghost use Rattle.katan.specs.Key.{keyNumber};
+ghost use Rattle.katan.specs.Checks.{value, checked};
+ghost use Rattle.record.specs.Fields.{sameBytes, lane, count, number, mask, key, block};
+ghost use Rattle.record.specs.Checks.{fieldChecks};
+ghost use Rattle.record.specs.Answers.{fieldOutcome};
+use crate::bytes::byte_at;
+use crate::bytes::bytes_in;
+use crate::bytes::word_in;
+use crate::faults::clear_fault;
+use crate::faults::load_fault;
+use crate::faults::move_fault;
+use katan::Key;
+use katan::Refusal;
+
+mod bytes;
+mod faults;
+
+// How many lanes a bench has.
+pub const LANES: usize = 64;
+
+// How many bytes a record has.
+pub const LENGTH: usize = 40;
+
+// The kind: 1 load, 2 forward, 3 back, 4 clear.
+pub fn kind_byte(sent: &[u8]) -> u8
+    ensures { λ r. ⌜ r ≡ getD (now (sent .entry)) 0 0 ⌝ }
+{
+    byte_at(sent, 0)
+}
+
+pub fn lane_of(sent: &[u8]) -> u8
+    ensures { λ r. ⌜ r ≡ lane (now (sent .entry)) ⌝ }
+{
+    byte_at(sent, 1)
+}
+
+// The load position or the move count.
+pub fn count_of(sent: &[u8]) -> u8
+    ensures { λ r. ⌜ r ≡ count (now (sent .entry)) ⌝ }
+{
+    byte_at(sent, 2)
+}
+
+pub fn number_of(sent: &[u8]) -> u32
+    ensures { λ r. ⌜ r ≡ number (now (sent .entry)) ⌝ }
+{
+    word_in(sent, 4, 4) as u32
+}
+
+pub fn mask_of(sent: &[u8]) -> u64
+    ensures { λ r. ⌜ r ≡ mask (now (sent .entry)) ⌝ }
+{
+    word_in(sent, 8, 8)
+}
+
+pub fn key_in(sent: &[u8]) -> Key
+    ensures { λ r. ⌜ keyNumber r ≡ key (now (sent .entry)) ⌝ }
+{
+    katan::key_of(bytes_in(sent, 16, 10))
+}
+
+pub fn block_of(sent: &[u8]) -> u64
+    ensures { λ r. ⌜ r ≡ block (now (sent .entry)) ⌝ }
+{
+    word_in(sent, 26, 8)
+}
+
+pub fn same_bytes(a: &[u8], b: &[u8]) -> bool
+    ensures { λ r. ⌜ r ≡ sameBytes (now (a .entry)) (now (b .entry)) ⌝ }
+{
+    if a.len() != b.len() {
+        return false;
+    }
+    let mut i: usize = 0;
+    while i < a.len() {
+        if a[i] != b[i] {
+            return false;
+        }
+        i += 1;
+    }
+    true
+}
+
+// What the checks of a record's fields answer.
+pub enum FieldAnswer {
+    Sound,
+    Refused(Refusal),
+}
+
+// Checks 3 to 8 of a record on a bench of a variant: the kind chooses those of its fields.
+pub fn field_fault(variant: u8, sent: &[u8]) -> FieldAnswer
+    ensures { λ r. ⌜ fieldOutcome r ≡ checked (fieldChecks variant (now (sent .entry))) (value tt) ⌝ }
+{
+    match kind_byte(sent) {
+        1 => load_fault(variant, sent),
+        2 => move_fault(sent),
+        3 => move_fault(sent),
+        4 => clear_fault(sent),
+        _ => FieldAnswer::Refused(Refusal::BadKind),
+    }
+}

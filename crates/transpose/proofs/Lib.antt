@@ -1,0 +1,5 @@
+pub mod Bits
+pub mod Laws
+pub mod Swaps
+pub mod Pair
+pub mod Places

@@ -1,0 +1,11 @@
+//! A model of the KATAN and KTANTAN ciphers, written from the paper (document 004) and
+//! document 01. It shares no code with the Rattle crates that it is compared with.
+
+pub mod calls;
+pub mod cipher;
+pub mod random;
+pub mod vectors;
+
+pub use calls::Refusal;
+pub use cipher::{decrypt, encrypt, registers_at, Variant, ROUNDS};
+pub use random::Random;
