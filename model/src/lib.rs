@@ -1,11 +1,14 @@
-//! A model of the KATAN and KTANTAN ciphers, written from the paper (document 004) and
-//! document 01. It shares no code with the Rattle crates that it is compared with.
+//! A model of the KATAN and KTANTAN ciphers and of the stepping bench, written from the paper
+//! (document 004) and document 01. It shares no code with the Rattle crates that it is compared with.
 
+pub mod bench;
 pub mod calls;
 pub mod cipher;
+pub mod lists;
 pub mod random;
 pub mod vectors;
 
+pub use bench::{Bench, Reading, Reply};
 pub use calls::Refusal;
 pub use cipher::{decrypt, encrypt, registers_at, Variant, ROUNDS};
 pub use random::Random;

@@ -2,16 +2,11 @@
 -- Assumes nothing.
 use mathlib.Core.Path.{_≡_, sym, ap, _∙_}
 use Prim.Native.Nat.{ℕ, _+_, _-_, _*_, _/_, _%_, _^_, _<_, _≤_}
-use native.Mathlib.Nat.{one-mul, lt-of-lt-of-le}
+use native.Mathlib.Nat.{lt-of-lt-of-le}
 use native.Mathlib.Omega.{arith}
 use lib.Pow.{pow-mono, shl-exact, high, low, shr-shr}
-use lib.Dec.{lit<}
 use Rattle.katan.specs.Bit.{bit}
 use Rattle.katan.proofs.Bits.{bit-mod}
-
--- `1 << w` is 2 ^ w
-pub one-shifted : (w : ℕ) → w < 64 → (1 * 2 ^ w) % 2 ^ 64 ≡ 2 ^ w
-one-shifted w h = shl-exact {a = 1} 1 w 64 (lit< tt) (omega arith) ∙ one-mul (2 ^ w)
 
 -- a bit shifted to a place below 63 stays whole
 pub bit-shifted : (t m : ℕ) → m < 63 → t < 2 → (t * 2 ^ m) % 2 ^ 64 ≡ t * 2 ^ m

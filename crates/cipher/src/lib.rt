@@ -1,13 +1,11 @@
 // One block: encryption, decryption, and the registers from one position to another.
 ghost use mathlib.Core.Path.{_≡_};
 ghost use Prim.Native.Nat.{_<_, _≤_, _^_};
-ghost use lib.Dec.{leb};
 ghost use Rattle.katan.specs.Bit.{numberIn};
 ghost use Rattle.katan.specs.Counter.{rounds};
 ghost use Rattle.katan.specs.Key.{keyNumber};
 ghost use Rattle.katan.specs.Variant.{rowOf, widthOf};
 ghost use Rattle.katan.specs.Machine.{registersAt};
-ghost use Rattle.katan.specs.Within.{Sound};
 ghost use Rattle.cipher.specs.Answers.{outcome, blockAnswer, encryptAnswer, decryptAnswer, registersAnswer};
 use crate::round_keys::round_keys;
 use crate::rounds::between;
@@ -25,15 +23,6 @@ mod rounds;
 pub enum Answer {
     Block(u64),
     Refused(Refusal),
-}
-
-// Check 7: the block is 2^n or more.
-fn too_wide(row: Row, x: u64) -> bool
-    requires { ⌜ Sound row ⌝ }
-    ensures { λ r. ⌜ r ≡ leb (2 ^ (row .n)) x ⌝ }
-{
-    let n = row.n;
-    if n < 64 { (1 << n) <= x } else { false }
 }
 
 // The registers at position p of x loaded at q.
@@ -56,7 +45,7 @@ fn worked(variant: u8, key: &[u8], q: u8, p: u8, x: u64) -> Answer
             if key.len() != 10 {
                 return Answer::Refused(Refusal::BadLength);
             }
-            if too_wide(row, x) {
+            if katan::too_wide(row.n, x) {
                 return Answer::Refused(Refusal::BadBlock);
             }
             Answer::Block(moved(variant, row, katan::key_of(key), q, p, x))
@@ -99,7 +88,7 @@ pub fn registers_at(
             if katan::ROUNDS < p {
                 return Answer::Refused(Refusal::BadPosition);
             }
-            if too_wide(row, registers) {
+            if katan::too_wide(row.n, registers) {
                 return Answer::Refused(Refusal::BadBlock);
             }
             Answer::Block(moved(variant, row, key, q, p, registers))

@@ -2,14 +2,18 @@
 -- Assumes nothing.
 use mathlib.Core.Path.{_≡_, refl, sym, ap, _∙_}
 use Prim.Native.Nat.{ℕ, zero, suc, _+_, _-_, _*_, _/_, _%_, _^_, _<_}
-use native.Mathlib.Nat.{mod-lt, zero-div}
+use native.Mathlib.Nat.{mod-lt, zero-div, one-mul}
 use native.Mathlib.Omega.{arith}
-use lib.Pow.{field, mod-mod-pow}
+use lib.Pow.{field, mod-mod-pow, shl-exact}
 use lib.Bits.{and-lt, xor-lt, xor-shr, xor-mod, and-shr, and-mod}
 use lib.Dec.{lit<}
 use Rattle.katan.specs.Bit.{bit, xor, and}
 use Rattle.katan.specs.Clock.{fa, fb, faRest, fbRest}
 use Rattle.katan.specs.declared.Row.{Row}
+
+-- `1 << w` is 2 ^ w
+pub one-shifted : (w : ℕ) → w < 64 → (1 * 2 ^ w) % 2 ^ 64 ≡ 2 ^ w
+one-shifted w h = shl-exact {a = 1} 1 w 64 (lit< tt) (omega arith) ∙ one-mul (2 ^ w)
 
 pub bit-lt : (x i : ℕ) → bit x i < 2
 bit-lt x i = mod-lt (x / 2 ^ i) (lit< tt)

@@ -1,6 +1,7 @@
 // The KATAN and KTANTAN ciphers: types, tables, and, in specs/, their definitions.
 ghost use mathlib.Core.Path.{_≡_};
-ghost use Prim.Native.Nat.{_*_, _<_};
+ghost use Prim.Native.Nat.{_*_, _<_, _^_};
+ghost use lib.Dec.{leb};
 ghost use lib.ListN.{getD, take};
 ghost use Rattle.katan.specs.Bit.{numberIn, tabulate};
 ghost use Rattle.katan.specs.Counter.{counter, rounds};
@@ -211,6 +212,13 @@ pub fn row_of(variant: u8) -> RowAnswer
         6 => RowAnswer::Found(row_64()),
         _ => RowAnswer::Refused(Refusal::BadVariant),
     }
+}
+
+// Whether a word is 2^n or more: check 7 of a block, and of a lane's registers.
+pub fn too_wide(n: usize, x: u64) -> bool
+    ensures { λ r. ⌜ r ≡ leb (2 ^ n) x ⌝ }
+{
+    if n < 64 { (1 << n) <= x } else { false }
 }
 
 // The first clock of the round at a position: a position becomes a clock number only through the row's clocks a round.

@@ -1,7 +1,6 @@
 // The checks of a record's fields, kind by kind, each in the order of its numbers: the first fault found is answered.
 ghost use mathlib.Core.Path.{_≡_};
-ghost use Prim.Native.Nat.{ℕ, _^_};
-ghost use lib.Dec.{leb};
+ghost use Prim.Native.Nat.{ℕ};
 ghost use Rattle.katan.specs.Variant.{widthOf};
 ghost use Rattle.katan.specs.Checks.{value, checked};
 ghost use Rattle.record.specs.Fields.{load, forward, clear};
@@ -27,13 +26,6 @@ fn width_of(variant: u8) -> usize
         RowAnswer::Found(row) => row.n,
         RowAnswer::Refused(_) => katan::row_32().n,
     }
-}
-
-// Whether a word is 2^n or more.
-fn too_wide(n: usize, x: u64) -> bool
-    ensures { λ r. ⌜ r ≡ leb (2 ^ n) x ⌝ }
-{
-    if n < 64 { (1 << n) <= x } else { false }
 }
 
 // Whether a byte that is zero in every record is not.
@@ -75,7 +67,7 @@ pub fn load_fault(variant: u8, sent: &[u8]) -> FieldAnswer
     }
     let lane = lane_of(sent) as usize;
     let position = count_of(sent);
-    let wide = too_wide(width_of(variant), block_of(sent));
+    let wide = katan::too_wide(width_of(variant), block_of(sent));
     if LANES <= lane {
         return FieldAnswer::Refused(Refusal::BadLane);
     }

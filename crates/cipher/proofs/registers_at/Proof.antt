@@ -5,7 +5,6 @@ use lib.Dec.{leb}
 use Rattle.katan.specs.Checks.{value, refused}
 use Rattle.katan.specs.Counter.{rounds}
 use Rattle.katan.specs.declared.Row.{Row}
-use Rattle.katan.proofs.Undo.{sound}
 use Rattle.katan.proofs.Variants.{row-found, row-refused}
 use borrow.Author.Needs.{needs}
 use Rattle.cipher.proofs.registers_at.Statement.{statement}
@@ -13,7 +12,7 @@ use Rattle.cipher.proofs.registers_at.Tie as tie
 use Rattle.cipher.proofs.registers_at.Reads as reads
 use Rattle.cipher.proofs.registers_at.Lts as lts
 use Rattle.cipher.proofs.moved.Reads as moved-reads
-use Rattle.cipher.proofs.too_wide.Reads as too-wide-reads
+use Rattle.katan.proofs.too_wide.Reads as too-wide-reads
 use Rattle.katan.proofs.row_of.Reads as row-of-reads
 
 row-of-requires : tie.Need-row-of-requires
@@ -39,12 +38,7 @@ returns-2 c =
     rw (is .no-fault, le-ltb rounds (d .args .from .0) (c .before .if1 .left), lt-ltb rounds (d .args .to .0) (c .if2 .taken))
 
 too-wide-requires : tie.Need-too-wide-requires
-too-wide-requires c κs =
-    let m = c .before .before in
-    let d = m .before .before .before .before in
-    let v = d .args .variant in
-    let is = row-found v (m .before .before .before .row-of .result) _ (m .before .before .before .row-of .ensures) (m .before .row .given .1) in
-    rw (is .is-row) (sound v)
+too-wide-requires c κs = search needs
 
 returns-3 : tie.Need-returns-3
 returns-3 c =

@@ -9,7 +9,6 @@ use Rattle.katan.specs.Bit.{numberIn}
 use Rattle.katan.specs.Machine.{registersAt}
 use Rattle.katan.specs.Checks.{value, refused}
 use Rattle.katan.specs.declared.Row.{Row}
-use Rattle.katan.proofs.Undo.{sound}
 use Rattle.katan.proofs.Variants.{row-found, row-refused}
 use borrow.Author.Needs.{needs}
 use Rattle.cipher.proofs.worked.Statement.{statement}
@@ -17,7 +16,7 @@ use Rattle.cipher.proofs.worked.Tie as tie
 use Rattle.cipher.proofs.worked.Reads as reads
 use Rattle.cipher.proofs.worked.Lts as lts
 use Rattle.cipher.proofs.moved.Reads as moved-reads
-use Rattle.cipher.proofs.too_wide.Reads as too-wide-reads
+use Rattle.katan.proofs.too_wide.Reads as too-wide-reads
 use Rattle.katan.proofs.key_of.Reads as key-of-reads
 use Rattle.katan.proofs.row_of.Reads as row-of-reads
 
@@ -36,12 +35,7 @@ returns c =
     rw (is .no-fault, ne-eqb (length (d .args .key .now)) 10 (c .if1 .taken))
 
 too-wide-requires : tie.Need-too-wide-requires
-too-wide-requires c κs =
-    let m = c .before in
-    let d = m .before .before .before .before .before in
-    let v = d .args .variant in
-    let is = row-found v (m .before .before .before .row-of .result) _ (m .before .before .before .row-of .ensures) (m .before .row .given .1) in
-    rw (is .is-row) (sound v)
+too-wide-requires c κs = search needs
 
 returns-2 : tie.Need-returns-2
 returns-2 c =

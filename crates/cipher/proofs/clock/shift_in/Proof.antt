@@ -1,5 +1,5 @@
 use lib.Pow.{pow-pos}
-use Rattle.cipher.proofs.Words.{one-shifted}
+use Rattle.katan.proofs.Bits.{one-shifted}
 use borrow.Author.Needs.{needs}
 use Rattle.cipher.proofs.clock.shift_in.Statement.{statement}
 use Rattle.cipher.proofs.clock.shift_in.Tie as tie
