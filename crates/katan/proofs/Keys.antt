@@ -38,21 +38,21 @@ module _ {B : Type 0} (_⊕_ : B → B → B) (z : B) (key : List B) (h : length
       ∙ List·getD-append (list (m + j)) _ z i (omega (arith, length-k (m + j)))
       ∙ longer m i q j
 
-  agree : (m i : ℕ) → m ≤ 428 → i < m + keyLength → getD (list 428) i z ≡ getD (list m) i z
+  agree : (m i : ℕ) → m ≤ (2 * rounds - keyLength) → i < m + keyLength → getD (list (2 * rounds - keyLength)) i z ≡ getD (list m) i z
   agree m i p q =
-      let e : 428 ≡ m + (428 - m) = omega arith in
-      ap (λ (y : ℕ). getD (list y) i z) e ∙ longer m i q (428 - m)
+      let e : (2 * rounds - keyLength) ≡ m + ((2 * rounds - keyLength) - m) = omega arith in
+      ap (λ (y : ℕ). getD (list y) i z) e ∙ longer m i q ((2 * rounds - keyLength) - m)
 
-  pub k-low : (i : ℕ) → i < keyLength → getD (kList _⊕_ z key 428) i z ≡ getD key i z
+  pub k-low : (i : ℕ) → i < keyLength → getD (kList _⊕_ z key (2 * rounds - keyLength)) i z ≡ getD key i z
   unfolding list
   k-low i q = agree 0 i (omega arith) (omega arith)
 
-  pub k-rule : (i : ℕ) → keyLength ≤ i → i < 508 → getD (kList _⊕_ z key 428) i z ≡ kRule _⊕_ (λ j. getD (kList _⊕_ z key 428) j z) i
+  pub k-rule : (i : ℕ) → keyLength ≤ i → i < 2 * rounds → getD (kList _⊕_ z key (2 * rounds - keyLength)) i z ≡ kRule _⊕_ (λ j. getD (kList _⊕_ z key (2 * rounds - keyLength)) j z) i
   unfolding list
   k-rule i p q =
       let m = i - 80 in
       let e : i ≡ m + keyLength = omega arith in
-      let l : (d : ℕ) → 13 ≤ d → getD (list m) (i - d) z ≡ getD (list 428) (i - d) z = λ d g. sym (agree m (i - d) (omega arith) (omega arith)) in
+      let l : (d : ℕ) → 13 ≤ d → getD (list m) (i - d) z ≡ getD (list (2 * rounds - keyLength)) (i - d) z = λ d g. sym (agree m (i - d) (omega arith) (omega arith)) in
       agree (suc m) i (omega arith) (omega arith)
       ∙ ap (λ (y : ℕ). getD (list (suc m)) y z) e
       ∙ getD-at (list m) _ [] z (m + keyLength) (length-k m)
@@ -71,7 +71,7 @@ module _ (key : ℕ) where
   k-key i q = k-low xor 0 (keyBits key) key-length i q ∙ entry (bit key) keyLength i 0 q
 
   -- then k(i - 80) xor k(i - 61) xor k(i - 50) xor k(i - 13)
-  pub k-next : (i : ℕ) → keyLength ≤ i → i < 508 → k key i ≡ kRule xor (k key) i
+  pub k-next : (i : ℕ) → keyLength ≤ i → i < 2 * rounds → k key i ≡ kRule xor (k key) i
   unfolding k
   k-next i p q = k-rule xor 0 (keyBits key) key-length i p q
 
@@ -103,13 +103,13 @@ module _ (P : ℕ → Type 0) (none : P 0) (kept : (a b : ℕ) → P a → P b �
   round-keys-each : (v key : ℕ) → ((i : ℕ) → P (bit key i)) → (j : ℕ) → P (getD (roundKeys xor 0 v (keyBits key)) j 0)
   round-keys-each v key h =
       let b = tabulated (bit key) h keyLength 0 in
-      picked (isKatan v) (kList xor 0 (keyBits key) 428) (keyBits key) (k-each (keyBits key) b 428) b
+      picked (isKatan v) (kList xor 0 (keyBits key) (2 * rounds - keyLength)) (keyBits key) (k-each (keyBits key) b (2 * rounds - keyLength)) b
 
 pub k-bit : (key i : ℕ) → k key i < 2
 unfolding k
 k-bit key i =
     let b : (a c : ℕ) → a < 2 → c < 2 → xor a c < 2 = λ a c p q. xor-bit p q in
-    k-each (λ x. x < 2) (omega arith) b (keyBits key) (tabulated (λ x. x < 2) (omega arith) b (bit key) (bit-lt key) keyLength 0) 428 i
+    k-each (λ x. x < 2) (omega arith) b (keyBits key) (tabulated (λ x. x < 2) (omega arith) b (bit key) (bit-lt key) keyLength 0) (2 * rounds - keyLength) i
 
 -- a round's IR, ka and kb are bits
 pub input-bits : (v key r : ℕ) → Bits (inputOf v key r)
@@ -141,7 +141,7 @@ pub ktantan-input : (v key r : ℕ) → 3 < v → r < rounds
     → inputOf v key r ≡ record { ir = irOf (counter r); ka = bit key (keyBitNumber (2 * r)); kb = bit key (keyBitNumber (2 * r + 1)) }
 unfolding inputOf
 ktantan-input v key r h q =
-    let at : (i j : ℕ) → keyBitNumber i ≡ j → i < 508 → getD (keyBits key) j 0 ≡ bit key (keyBitNumber i)
+    let at : (i j : ℕ) → keyBitNumber i ≡ j → i < 2 * rounds → getD (keyBits key) j 0 ≡ bit key (keyBitNumber i)
     = λ i j e l. ap (λ (y : ℕ). getD (keyBits key) y 0) (sym e) ∙ entry (bit key) keyLength (keyBitNumber i) 0 (number-below i l) in
     ap₂ (input r)
     (chosen (isKatan v) false (lt-leb v 3 h) _ _ _ _ ∙ at (2 * r) _ (ka-number r) (omega arith))

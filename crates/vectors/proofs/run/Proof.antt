@@ -6,10 +6,13 @@ use Rattle.vectors.proofs.run.Statement.{statement}
 use Rattle.vectors.proofs.run.Tie as tie
 
 abbrev Inv-loop : tie.InvT-loop
-Inv-loop input at₀ at = Unit
+Inv-loop input session₀ at₀ session at = Unit
 
 abbrev μ-loop : tie.MeasureT-loop
-μ-loop input at₀ at = length input - at
+μ-loop input session₀ at₀ session at = length input - at
+
+first-session-requires : tie.Need-first-session-requires Inv-loop μ-loop
+first-session-requires c κs = search needs
 
 loop-holds : tie.Need-loop-holds Inv-loop μ-loop
 loop-holds c = search needs
@@ -29,9 +32,6 @@ part-answer-end c = search needs
 answer-requires : tie.Need-answer-requires Inv-loop μ-loop
 answer-requires c κs = search needs
 
-print-requires : tie.Need-print-requires Inv-loop μ-loop
-print-requires c κs = search needs
-
 add-at : tie.Need-add-at Inv-loop μ-loop
 add-at c = search needs
 
@@ -50,13 +50,13 @@ run-spec =
     (tie.spec
     Inv-loop
     μ-loop
+    first-session-requires
     loop-holds
     find-requires
     sub-answer
     part-answer-start
     part-answer-end
     answer-requires
-    print-requires
     add-at
     loop-less
     loop-again

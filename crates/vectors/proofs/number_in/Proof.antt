@@ -1,15 +1,15 @@
--- `vectors::hexadecimal` is safe and ends. The measure is how many digits are left.
+-- `vectors::number_in` is safe and ends. The measure is how many digits are left.
 use Prim.Native.Nat.{_-_}
 use lib.ListN.{length}
 use borrow.Author.Needs.{needs}
-use Rattle.vectors.proofs.hexadecimal.Statement.{statement}
-use Rattle.vectors.proofs.hexadecimal.Tie as tie
+use Rattle.vectors.proofs.number_in.Statement.{statement}
+use Rattle.vectors.proofs.number_in.Tie as tie
 
 abbrev Inv-loop : tie.InvT-loop
-Inv-loop digits n₀ i₀ n i = Unit
+Inv-loop digits base n₀ i₀ n i = Unit
 
 abbrev μ-loop : tie.MeasureT-loop
-μ-loop digits n₀ i₀ n i = length digits - i
+μ-loop digits base n₀ i₀ n i = length digits - i
 
 loop-holds : tie.Need-loop-holds Inv-loop μ-loop
 loop-holds c = search needs
@@ -32,8 +32,8 @@ loop-again c = search needs
 returns : tie.Need-returns Inv-loop μ-loop
 returns c = search needs
 
-pub hexadecimal-spec : {M : Type 1} → statement M
-hexadecimal-spec =
+pub number-in-spec : {M : Type 1} → statement M
+number-in-spec =
     tie.close
     (tie.spec
     Inv-loop

@@ -1,0 +1,7 @@
+pub mod Stores
+pub mod Clocks
+pub mod Histories
+pub mod Columns
+pub mod KeyWords
+pub mod Blocks
+pub mod Faults

@@ -1,0 +1,81 @@
+-- `lanes::rounds::clock_at` meets its contract.
+-- Assumes nothing.
+use mathlib.Core.Path.{_≡_}
+use Prim.Native.Nat.{_+_}
+use native.Mathlib.Omega.{arith}
+use native.Mathlib.Nat.{add-sub-cancel}
+use borrow.Author.Needs.{needs}
+use Rattle.lanes.proofs.rounds.clock_at.Statement.{statement}
+use Rattle.lanes.proofs.rounds.clock_at.Tie as tie
+
+add-p : tie.Need-add-p
+add-p c = search needs
+
+add-q : tie.Need-add-q
+add-q c = search needs
+
+mul-fa : tie.Need-mul-fa
+mul-fa c = search needs
+
+element-copy-out-fa : tie.Need-element-copy-out-fa
+element-copy-out-fa c = search needs
+
+fa-rest-requires : tie.Need-fa-rest-requires
+fa-rest-requires c κs = search needs
+
+mul-fb : tie.Need-mul-fb
+mul-fb c = search needs
+
+element-copy-out-fb : tie.Need-element-copy-out-fb
+element-copy-out-fb c = search needs
+
+fb-rest-requires : tie.Need-fb-rest-requires
+fb-rest-requires c κs = search needs
+
+add-a : tie.Need-add-a
+add-a c = search needs
+
+mul-a : tie.Need-mul-a
+mul-a c = search needs
+
+element-write-a : tie.Need-element-write-a
+element-write-a c = search needs
+
+add-b : tie.Need-add-b
+add-b c = search needs
+
+mul-b : tie.Need-mul-b
+mul-b c = search needs
+
+element-write-b : tie.Need-element-write-b
+element-write-b c = search needs
+
+returns : tie.Need-returns
+returns c =
+    let d = c .before .before .before .before .before .before .before .before in
+    let t = d .args .t in
+    let v = d .args .v in
+    let s = d .pre .0 in
+    let p : t + v .x1 + 1 ≡ t + v .len1 = omega (arith, s .top1) in
+    let q : t + v .y1 + 1 ≡ t + v .len2 = omega (arith, s .top2) in
+    (cc (add-sub-cancel t (v .y1)), cc (add-sub-cancel t (v .x1)))
+
+pub clock-at-spec : {M : Type 1} → statement M
+clock-at-spec =
+    tie.close
+    (tie.spec
+    add-p
+    add-q
+    mul-fa
+    element-copy-out-fa
+    fa-rest-requires
+    mul-fb
+    element-copy-out-fb
+    fb-rest-requires
+    add-a
+    mul-a
+    element-write-a
+    add-b
+    mul-b
+    element-write-b
+    returns)

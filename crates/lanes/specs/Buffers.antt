@@ -1,0 +1,49 @@
+-- The registers of all lanes in two buffers, a for L1 and b for L2. Nothing is shifted: a buffer holds the words that entered its register, in
+-- order, so bit i of the register stands i places before its newest word. At clock t the highest bit stands at t. No promise of a public function cites it.
+-- Assumes nothing.
+use Prim.Native.Nat.{ℕ, _+_, _-_, _*_, _<_, _≤_}
+use mathlib.Core.Path.{_≡_}
+use mathlib.Core.List.{List}
+use lib.ListN.{getD, length}
+use Rattle.katan.specs.Bit.{xor, and}
+use Rattle.katan.specs.Clock.{fa, fb}
+use Rattle.katan.specs.declared.Row.{Row}
+use Rattle.katan.specs.declared.RoundInput.{RoundInput}
+use Rattle.lanes.specs.Words.{wordInput}
+
+-- bit i of the register whose newest word stands at p
+abbrev pub tapped : List ℕ → ℕ → ℕ → ℕ
+tapped l p i = getD l (p - i) 0
+
+-- the buffers' lengths, which a reference to an array does not tell a proof
+pub record Room (a b : List ℕ) : Type 0 where
+  pub room1 : length a ≡ 826
+  pub room2 : length b ≡ 826
+
+-- clock t is made with the input u: fb entered L1, and fa entered L2
+pub record Clocked (v : Row) (u : RoundInput) (t : ℕ) (a b : List ℕ) : Type 0 where
+  pub into1 : getD a (t + v .len1) 0 ≡ fb xor and v (tapped b (t + v .y1)) (u .kb)
+  pub into2 : getD b (t + v .len2) 0 ≡ fa xor and v (tapped a (t + v .x1)) (u .ir) (u .ka)
+
+-- the clocks first + m to first + n - 1 are made with one input
+abbrev pub Clocks : Row → RoundInput → (first m n : ℕ) → List ℕ → List ℕ → Type 0
+Clocks v u first m n a b = (c : ℕ) → m ≤ c → c < n → Clocked v u (first + c) a b
+
+-- all clocks of the rounds p to q - 1 are made
+abbrev pub History : Row → (irs keys : List ℕ) → (p q : ℕ) → List ℕ → List ℕ → Type 0
+History v irs keys p q a b = (r c : ℕ) → p ≤ r → r < q → c < v .clocks → Clocked v (wordInput irs keys r) (v .clocks * r + c) a b
+
+-- the registers of clock t, and what went before, are kept
+pub record KeptBelow (v : Row) (t : ℕ) (a b a′ b′ : List ℕ) : Type 0 where
+  pub below1 : (i : ℕ) → i < t + v .len1 → getD a′ i 0 ≡ getD a i 0
+  pub below2 : (i : ℕ) → i < t + v .len2 → getD b′ i 0 ≡ getD b i 0
+
+-- the registers of clock t, and what comes after, are kept
+pub record KeptFrom (t : ℕ) (a b a′ b′ : List ℕ) : Type 0 where
+  pub from1 : (i : ℕ) → t ≤ i → getD a′ i 0 ≡ getD a i 0
+  pub from2 : (i : ℕ) → t ≤ i → getD b′ i 0 ≡ getD b i 0
+
+-- the words of the blocks' bits stand in the buffers as the registers of clock t
+pub record Placed (v : Row) (t : ℕ) (words a b : List ℕ) : Type 0 where
+  pub placed2 : (i : ℕ) → i < v .len2 → getD b (t + v .y1 - i) 0 ≡ getD words i 0
+  pub placed1 : (i : ℕ) → i < v .len1 → getD a (t + v .x1 - i) 0 ≡ getD words (v .len2 + i) 0

@@ -1,0 +1,3 @@
+pub mod Many
+pub mod Buffers
+pub mod Words

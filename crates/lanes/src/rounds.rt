@@ -1,0 +1,281 @@
+// The rounds of all lanes at once. Nothing is shifted: two buffers hold the words that entered L1 and L2, so that a clock is two
+// formulas and two stores. A buffer's index is a clock number; a round's position becomes one through `first_clock` alone.
+ghost use mathlib.Core.Path.{_≡_};
+ghost use Prim.Native.Nat.{ℕ, _+_, _-_, _*_, _<_, _≤_};
+ghost use lib.ListN.{getD, length, set};
+ghost use Rattle.katan.specs.Bit.{xor, and};
+ghost use Rattle.katan.specs.Counter.{counter, irOf, rounds};
+ghost use Rattle.katan.specs.Clock.{fa, fb, faRest, fbRest};
+ghost use Rattle.katan.specs.Within.{Sound};
+ghost use Rattle.lanes.specs.Words.{Entries, spread, wordInput, IsRow, Carried};
+ghost use Rattle.lanes.specs.Buffers.{tapped, Room, Clocked, Clocks, History, KeptBelow, KeptFrom, Placed};
+use katan::ClockNumber;
+use katan::RoundInput;
+use katan::RoundPosition;
+use katan::Row;
+
+// Room for the 762 clocks of the longest run and for a register of fewer than 64 bits.
+const BUFFER: usize = 826;
+
+fn wide(x: u8) -> u64
+    ensures { λ r. ⌜ r ≡ x ⌝ }
+{
+    x as u64
+}
+
+// IR of each round, the same in all lanes.
+pub fn ir_words() -> [u64; 254]
+    ensures { λ r. ⌜ Entries (λ i. spread (irOf (counter i))) rounds r ⌝ }
+{
+    let counters = katan::counters();
+    let mut words = [0u64; 254];
+    for r in 0..254 {
+        words[r] = (wide(counters[r]) >> 7) % 2 * 18446744073709551615;
+    }
+    words
+}
+
+// Bit i of the register whose newest word stands at p.
+fn tap(l: &[u64; BUFFER], p: usize, i: usize) -> u64
+    requires { ⌜ (i ≤ p) × (p < 826) ⌝ }
+    ensures { λ r. ⌜ r ≡ tapped (now (l .entry)) p i ⌝ }
+{
+    l[p - i]
+}
+
+fn fa_rest(v: Row, l: &[u64; BUFFER], p: usize, u: RoundInput) -> u64
+    requires { ⌜ Sound v × (v .x1 ≤ p) × (p < 826) ⌝ }
+    ensures { λ r. ⌜ r ≡ faRest xor and v (tapped (now (l .entry)) p) (u .ir) (u .ka) ⌝ }
+{
+    tap(l, p, v.x2) ^ (tap(l, p, v.x3) & tap(l, p, v.x4)) ^ (tap(l, p, v.x5) & u.ir) ^ u.ka
+}
+
+fn fb_rest(v: Row, l: &[u64; BUFFER], p: usize, u: RoundInput) -> u64
+    requires { ⌜ Sound v × (v .y1 ≤ p) × (p < 826) ⌝ }
+    ensures { λ r. ⌜ r ≡ fbRest xor and v (tapped (now (l .entry)) p) (u .kb) ⌝ }
+{
+    tap(l, p, v.y2)
+        ^ (tap(l, p, v.y3) & tap(l, p, v.y4))
+        ^ (tap(l, p, v.y5) & tap(l, p, v.y6))
+        ^ u.kb
+}
+
+fn clock_at(v: Row, a: &mut [u64; BUFFER], b: &mut [u64; BUFFER], t: usize, u: RoundInput)
+    requires { ⌜ Sound v × (t + v .len2 < 826) × (t + v .len1 < 826) ⌝ }
+    ensures { λ r. ⌜ now (a .exit) ≡ set (now (a .entry)) (t + v .len1) (fb xor and v (tapped (now (b .entry)) (t + v .y1)) (u .kb)) ⌝ }
+    ensures { λ r. ⌜ now (b .exit) ≡ set (now (b .entry)) (t + v .len2) (fa xor and v (tapped (now (a .entry)) (t + v .x1)) (u .ir) (u .ka)) ⌝ }
+{
+    let p = t + v.x1;
+    let q = t + v.y1;
+    let fa = a[t] ^ fa_rest(v, a, p, u);
+    let fb = b[t] ^ fb_rest(v, b, q, u);
+    a[p + 1] = fb;
+    b[q + 1] = fa;
+}
+
+// The way back: what had left the registers at clock t stands at t again.
+fn unclock_at(v: Row, a: &mut [u64; BUFFER], b: &mut [u64; BUFFER], t: usize, u: RoundInput)
+    requires { ⌜ Sound v × (t + v .len2 < 826) × (t + v .len1 < 826) ⌝ }
+    ensures { λ r. ⌜ now (a .exit) ≡ set (now (a .entry)) t (xor (getD (now (b .entry)) (t + v .len2) 0) (faRest xor and v (tapped (now (a .entry)) (t + v .x1)) (u .ir) (u .ka))) ⌝ }
+    ensures { λ r. ⌜ now (b .exit) ≡ set (now (b .entry)) t (xor (getD (now (a .entry)) (t + v .len1) 0) (fbRest xor and v (tapped (now (b .entry)) (t + v .y1)) (u .kb))) ⌝ }
+{
+    let p = t + v.x1;
+    let q = t + v.y1;
+    let left1 = b[q + 1] ^ fa_rest(v, a, p, u);
+    let left2 = a[p + 1] ^ fb_rest(v, b, q, u);
+    a[t] = left1;
+    b[t] = left2;
+}
+
+fn round_at(
+    v: Row,
+    n: usize,
+    a: &mut [u64; BUFFER],
+    b: &mut [u64; BUFFER],
+    from: ClockNumber,
+    u: RoundInput,
+)
+    requires { ⌜ Sound v × Room (now a) (now b) × (from .0 + n ≤ 762) ⌝ }
+    ensures { λ r. ⌜ Room (now (a .exit)) (now (b .exit)) ⌝ }
+    ensures { λ r. ⌜ Clocks v u (from .0) 0 n (now (a .exit)) (now (b .exit)) ⌝ }
+    ensures { λ r. ⌜ KeptBelow v (from .0) (now (a .entry)) (now (b .entry)) (now (a .exit)) (now (b .exit)) ⌝ }
+{
+    let first = from.0;
+    for i in 0..n {
+        clock_at(v, a, b, first + i, u);
+    }
+}
+
+// The last clock first. The test stands at the end, so that the clocks are not unrolled: unrolled, they run slower.
+fn unround_at(
+    v: Row,
+    n: usize,
+    a: &mut [u64; BUFFER],
+    b: &mut [u64; BUFFER],
+    from: ClockNumber,
+    u: RoundInput,
+)
+    requires { ⌜ Sound v × Room (now a) (now b) × (1 ≤ n) × (from .0 + n ≤ 762) ⌝ }
+    ensures { λ r. ⌜ Room (now (a .exit)) (now (b .exit)) ⌝ }
+    ensures { λ r. ⌜ Clocks v u (from .0) 0 n (now (a .exit)) (now (b .exit)) ⌝ }
+    ensures { λ r. ⌜ KeptFrom (from .0 + n) (now (a .entry)) (now (b .entry)) (now (a .exit)) (now (b .exit)) ⌝ }
+{
+    let first = from.0;
+    let mut t = first + n;
+    loop {
+        t -= 1;
+        unclock_at(v, a, b, t, u);
+        if t <= first {
+            break;
+        }
+    }
+}
+
+fn input_at(irs: &[u64; 254], keys: &[u64; 508], r: usize) -> RoundInput
+    requires { ⌜ r < rounds ⌝ }
+    ensures { λ u. ⌜ u ≡ wordInput (now (irs .entry)) (now (keys .entry)) r ⌝ }
+{
+    let i = 2 * r;
+    RoundInput {
+        ir: irs[r],
+        ka: keys[i],
+        kb: keys[i + 1],
+    }
+}
+
+fn run_at(
+    v: Row,
+    n: usize,
+    a: &mut [u64; BUFFER],
+    b: &mut [u64; BUFFER],
+    irs: &[u64; 254],
+    keys: &[u64; 508],
+)
+    requires { ⌜ Sound v × (n ≡ v .clocks) × Room (now a) (now b) ⌝ }
+    ensures { λ r. ⌜ Room (now (a .exit)) (now (b .exit)) ⌝ }
+    ensures { λ r. ⌜ History v (now (irs .entry)) (now (keys .entry)) 0 rounds (now (a .exit)) (now (b .exit)) ⌝ }
+    ensures { λ r. ⌜ KeptBelow v 0 (now (a .entry)) (now (b .entry)) (now (a .exit)) (now (b .exit)) ⌝ }
+{
+    for r in 0..katan::ROUNDS {
+        let from = katan::first_clock(v, RoundPosition(r));
+        let u = input_at(irs, keys, r as usize);
+        round_at(v, n, a, b, from, u);
+    }
+}
+
+fn unrun_at(
+    v: Row,
+    n: usize,
+    a: &mut [u64; BUFFER],
+    b: &mut [u64; BUFFER],
+    irs: &[u64; 254],
+    keys: &[u64; 508],
+)
+    requires { ⌜ Sound v × (n ≡ v .clocks) × Room (now a) (now b) ⌝ }
+    ensures { λ r. ⌜ Room (now (a .exit)) (now (b .exit)) ⌝ }
+    ensures { λ r. ⌜ History v (now (irs .entry)) (now (keys .entry)) 0 rounds (now (a .exit)) (now (b .exit)) ⌝ }
+    ensures { λ r. ⌜ KeptFrom (v .clocks * rounds) (now (a .entry)) (now (b .entry)) (now (a .exit)) (now (b .exit)) ⌝ }
+{
+    let mut r = katan::ROUNDS;
+    while 0 < r {
+        r -= 1;
+        let from = katan::first_clock(v, RoundPosition(r));
+        let u = input_at(irs, keys, r as usize);
+        unround_at(v, n, a, b, from, u);
+    }
+}
+
+// Each arm has its row and its clocks a round as constants, so that the loop is inlined there and compiled for its taps.
+fn run(v: Row, a: &mut [u64; BUFFER], b: &mut [u64; BUFFER], irs: &[u64; 254], keys: &[u64; 508])
+    requires { ⌜ IsRow v × Room (now a) (now b) ⌝ }
+    ensures { λ r. ⌜ Room (now (a .exit)) (now (b .exit)) ⌝ }
+    ensures { λ r. ⌜ History v (now (irs .entry)) (now (keys .entry)) 0 rounds (now (a .exit)) (now (b .exit)) ⌝ }
+    ensures { λ r. ⌜ KeptBelow v 0 (now (a .entry)) (now (b .entry)) (now (a .exit)) (now (b .exit)) ⌝ }
+{
+    let n = v.n;
+    match n {
+        32 => run_at(katan::row_32(), 1, a, b, irs, keys),
+        48 => run_at(katan::row_48(), 2, a, b, irs, keys),
+        _ => run_at(katan::row_64(), 3, a, b, irs, keys),
+    }
+}
+
+fn unrun(v: Row, a: &mut [u64; BUFFER], b: &mut [u64; BUFFER], irs: &[u64; 254], keys: &[u64; 508])
+    requires { ⌜ IsRow v × Room (now a) (now b) ⌝ }
+    ensures { λ r. ⌜ Room (now (a .exit)) (now (b .exit)) ⌝ }
+    ensures { λ r. ⌜ History v (now (irs .entry)) (now (keys .entry)) 0 rounds (now (a .exit)) (now (b .exit)) ⌝ }
+    ensures { λ r. ⌜ KeptFrom (v .clocks * rounds) (now (a .entry)) (now (b .entry)) (now (a .exit)) (now (b .exit)) ⌝ }
+{
+    let n = v.n;
+    match n {
+        32 => unrun_at(katan::row_32(), 1, a, b, irs, keys),
+        48 => unrun_at(katan::row_48(), 2, a, b, irs, keys),
+        _ => unrun_at(katan::row_64(), 3, a, b, irs, keys),
+    }
+}
+
+// Stores `len` words, from words[at] on, into a buffer from `top` down.
+fn load(words: &[u64; 64], at: usize, len: usize, l: &mut [u64; BUFFER], top: usize)
+    requires { ⌜ (at + len ≤ 64) × (len ≤ top + 1) × (top < 826) × (length (now l) ≡ 826) ⌝ }
+    ensures { λ r. ⌜ length (now (l .exit)) ≡ 826 ⌝ }
+    ensures { λ r. ⌜ ((i : ℕ) → i < len → getD (now (l .exit)) (top - i) 0 ≡ getD (now (words .entry)) (at + i) 0) ⌝ }
+{
+    for i in 0..len {
+        l[top - i] = words[at + i];
+    }
+}
+
+// The words with `len` more, from words[at] on, that stand in a buffer from `top` down.
+fn unloaded(words: [u64; 64], at: usize, len: usize, l: &[u64; BUFFER], top: usize) -> [u64; 64]
+    requires { ⌜ (at + len ≤ 64) × (len ≤ top + 1) × (top < 826) ⌝ }
+    ensures { λ r. ⌜ ((i : ℕ) → i < len → getD r (at + i) 0 ≡ getD (now (l .entry)) (top - i) 0) ⌝ }
+    ensures { λ r. ⌜ ((i : ℕ) → i < at → getD r i 0 ≡ getD words i 0) × ((i : ℕ) → at + len ≤ i → getD r i 0 ≡ getD words i 0) ⌝ }
+{
+    let mut w = words;
+    for i in 0..len {
+        w[at + i] = l[top - i];
+    }
+    w
+}
+
+// The words of the blocks' bits, from the registers of clock t.
+fn taken(v: Row, a: &[u64; BUFFER], b: &[u64; BUFFER], t: ClockNumber) -> [u64; 64]
+    requires { ⌜ Sound v × (t .0 ≤ 762) ⌝ }
+    ensures { λ r. ⌜ Placed v (t .0) r (now (a .entry)) (now (b .entry)) ⌝ }
+    ensures { λ r. ⌜ ((i : ℕ) → v .n ≤ i → getD r i 0 ≡ 0) ⌝ }
+{
+    let words = unloaded([0u64; 64], 0, v.len2, b, t.0 + v.y1);
+    unloaded(words, v.len2, v.len1, a, t.0 + v.x1)
+}
+
+pub fn encrypted(v: Row, irs: &[u64; 254], keys: &[u64; 508], words: &[u64; 64]) -> [u64; 64]
+    requires { ⌜ IsRow v ⌝ }
+    ensures { λ r. ⌜ Carried v (now (irs .entry)) (now (keys .entry)) (now (words .entry)) r ⌝ }
+    ensures { λ r. ⌜ ((i : ℕ) → v .n ≤ i → getD r i 0 ≡ 0) ⌝ }
+{
+    let mut a = [0u64; BUFFER];
+    let mut b = [0u64; BUFFER];
+    load(words, v.len2, v.len1, &mut a, v.x1);
+    load(words, 0, v.len2, &mut b, v.y1);
+    run(v, &mut a, &mut b, irs, keys);
+    taken(
+        v,
+        &a,
+        &b,
+        katan::first_clock(v, RoundPosition(katan::ROUNDS)),
+    )
+}
+
+pub fn decrypted(v: Row, irs: &[u64; 254], keys: &[u64; 508], words: &[u64; 64]) -> [u64; 64]
+    requires { ⌜ IsRow v ⌝ }
+    ensures { λ r. ⌜ Carried v (now (irs .entry)) (now (keys .entry)) r (now (words .entry)) ⌝ }
+    ensures { λ r. ⌜ ((i : ℕ) → v .n ≤ i → getD r i 0 ≡ 0) ⌝ }
+{
+    let end = katan::first_clock(v, RoundPosition(katan::ROUNDS)).0;
+    let mut a = [0u64; BUFFER];
+    let mut b = [0u64; BUFFER];
+    load(words, v.len2, v.len1, &mut a, end + v.x1);
+    load(words, 0, v.len2, &mut b, end + v.y1);
+    unrun(v, &mut a, &mut b, irs, keys);
+    taken(v, &a, &b, katan::first_clock(v, RoundPosition(0)))
+}

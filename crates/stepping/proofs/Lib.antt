@@ -1,0 +1,4 @@
+pub mod Sound
+pub mod Decisions
+pub mod ByteKind
+pub mod ReadCases

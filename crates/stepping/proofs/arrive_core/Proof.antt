@@ -1,0 +1,69 @@
+use mathlib.Core.Path.{_≡_, sym, ap, _∙_}
+use Rattle.katan.specs.Checks.{value}
+use Rattle.bench.specs.Checks.{counts, decision}
+use Rattle.bench.specs.Bench.{benchView, countedEffect, effectAs, arriveOf}
+use Rattle.bench.proofs.Turns.{counts-next}
+use Rattle.stepping.specs.Answers.{decisionOutcome}
+use Rattle.stepping.proofs.Decisions.{counts-sound, repeat-effect, refused-effect}
+use borrow.Author.Needs.{needs}
+use Rattle.stepping.proofs.arrive_core.Statement.{statement}
+use Rattle.stepping.proofs.arrive_core.Tie as tie
+
+-- the record counts
+counting : (c : tie.After-enum-told) → let a = c .before .before .before .before .args in decision (benchView (a .bench) (a .link)) (a .sent .now) ≡ value counts
+counting c = sym (ap decisionOutcome (sym (c .enum-told .given .1)) ∙ c .before .before .decided .ensures)
+
+decided-requires : tie.Need-decided-requires
+decided-requires c κs = search needs
+
+enum-told : tie.Need-enum-told
+enum-told c = search needs
+
+number-of-requires : tie.Need-number-of-requires
+number-of-requires c κs = search needs
+
+step-requires : tie.Need-step-requires
+step-requires c κs =
+    let e = c .before in
+    let a = e .before .before .before .before .args in
+    (counts-sound (a .bench) (a .link) (a .sent .now) (counting e), counts-next (benchView (a .bench) (a .link)) (a .sent .now) (counting e) .0 .lane-in)
+
+bytes-of-requires : tie.Need-bytes-of-requires
+bytes-of-requires c κs =
+    let e = c .before .before in
+    let a = e .before .before .before .before .args in
+    counts-next (benchView (a .bench) (a .link)) (a .sent .now) (counting e) .0 .size
+
+enum-told-2 : tie.Need-enum-told-2
+enum-told-2 c = search needs
+
+enum-known-r : tie.Need-enum-known-r
+enum-known-r c = search needs
+
+returns : tie.Need-returns
+unfolding arriveOf effectAs countedEffect
+returns c =
+    let s = c .before .before in
+    simp (counting (s .before .before), c .before .bytes-of .ensures, s .step .ensures .0, s .step .ensures .1, s .before .number-of .ensures)
+
+-- found wherever the decision stands, so that what they refuse is an arrival that says something else
+returns-2 : tie.Need-returns-2
+returns-2 c = search (needs, repeat-effect)
+
+returns-3 : tie.Need-returns-3
+returns-3 c = search (needs, refused-effect)
+
+pub arrive-core-spec : {M : Type 1} → statement M
+arrive-core-spec =
+    tie.close
+    (tie.spec
+    decided-requires
+    enum-told
+    number-of-requires
+    step-requires
+    bytes-of-requires
+    enum-told-2
+    enum-known-r
+    returns
+    returns-2
+    returns-3)
