@@ -6,6 +6,8 @@ pub mod calls;
 pub mod cipher;
 pub mod lists;
 pub mod random;
+pub mod script;
+pub mod scripts;
 pub mod vectors;
 
 pub use bench::{Bench, Reading, Reply};

@@ -8,7 +8,8 @@ use native.Mathlib.Omega.{arith}
 use lib.ListN.{length, getD}
 use borrow.Author.Tests.{le-leb, le-ltb}
 use Rattle.katan.specs.Checks.{Outcome, value, refused, variantCheck}
-use Rattle.record.specs.Fields.{kind, number, laneCount}
+use Rattle.katan.specs.Sizes.{laneCount}
+use Rattle.record.specs.Fields.{kind, number}
 use Rattle.bench.specs.Calls.{Call, arrival, reading, done, again, Answer, stateAfter, answersTo}
 use Rattle.bench.specs.Checks.{View, Turn, counts, repeats, decision}
 use Rattle.bench.specs.Model.{Model, freshModel, machineView, modelView, afterCounted, arrivalAs, modelTransition}

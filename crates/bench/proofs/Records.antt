@@ -6,7 +6,8 @@ use mathlib.Core.List.{List, [], _∷_}
 use Prim.Native.Nat.{ℕ, zero, suc, _+_, _<_}
 use native.Mathlib.Nat.{zero-add, add-zero, add-suc, suc-add, le-of-suc-le-suc, not-suc-le-zero}
 use lib.ListN.{length, getD, getD-replicate, length-replicate}
-use Rattle.record.specs.Fields.{laneCount, SaySame, AllSaySame}
+use Rattle.katan.specs.Sizes.{laneCount}
+use Rattle.record.specs.Fields.{SaySame, AllSaySame}
 use Rattle.bench.specs.Machine.{Machine, empty, step, stepOf, stepAll}
 use Rattle.bench.specs.Model.{Model, freshModel, afterCounted, madeBy}
 

@@ -12,7 +12,8 @@ use borrow.Author.Tests.{leb-false, eqb-true, eqb-false, eq-eqb, not-false}
 use Rattle.katan.specs.Bit.{pick}
 use Rattle.katan.specs.Variant.{widthOf}
 use Rattle.katan.specs.Checks.{Outcome, value, checked}
-use Rattle.record.specs.Fields.{sameBytes, laneCount, recordLength, kind, lane, count, block, number}
+use Rattle.katan.specs.Sizes.{laneCount}
+use Rattle.record.specs.Fields.{sameBytes, recordLength, kind, lane, count, block, number}
 use Rattle.record.specs.Checks.{nonzero, wrongCount, fieldChecks, lengthCheck}
 use Rattle.record.proofs.Same.{same-equal}
 use Rattle.record.proofs.Parts.{number-below}

@@ -10,7 +10,8 @@ use Rattle.katan.specs.Key.{keyNumber}
 use Rattle.katan.specs.Machine.{registersAt}
 use Rattle.katan.specs.Checks.{numberOf, Outcome, value, refused}
 use Rattle.katan.specs.declared.Key.{Key}
-use Rattle.record.specs.Fields.{laneCount, recordLength, Kind, load, forward, back, clear, other, kind, lane, count, number, mask, key, block}
+use Rattle.katan.specs.Sizes.{laneCount}
+use Rattle.record.specs.Fields.{recordLength, Kind, load, forward, back, clear, other, kind, lane, count, number, mask, key, block}
 use Rattle.bench.specs.declared.Loaded.{Loaded}
 use Rattle.bench.specs.declared.Lane.{Lane}
 use Rattle.bench.specs.declared.Lane.the-variants.{Empty, Held}

@@ -7,7 +7,8 @@ use mathlib.Core.List.{List, map}
 use lib.ListN.{getD}
 use Rattle.katan.specs.Bit.{AreBytes}
 use Rattle.katan.specs.Checks.{value}
-use Rattle.record.specs.Fields.{laneCount, AllSaySame}
+use Rattle.katan.specs.Sizes.{laneCount}
+use Rattle.record.specs.Fields.{AllSaySame}
 use Rattle.bench.specs.Machine.{Machine, empty}
 use Rattle.bench.specs.Calls.{Call, Answer, stateAfter, answersTo}
 use Rattle.bench.specs.Checks.{LaneView, View, benchCheck, Turn, repeats, decision}

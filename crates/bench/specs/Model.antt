@@ -6,7 +6,8 @@ use mathlib.Core.List.{List, [], _∷_, map}
 use lib.ListN.{length, getD, replicate}
 use Rattle.katan.specs.Machine.{registersAt}
 use Rattle.katan.specs.Checks.{Outcome, value, refused}
-use Rattle.record.specs.Fields.{laneCount, number}
+use Rattle.katan.specs.Sizes.{laneCount}
+use Rattle.record.specs.Fields.{number}
 use Rattle.bench.specs.Machine.{Machine, empty, loaded, stepOf, stepAll, totalOf}
 use Rattle.bench.specs.Calls.{Call, arrival, reading, done, again, Answer}
 use Rattle.bench.specs.Checks.{LaneView, emptyLane, loadedLane, View, Turn, counts, repeats, decision, readOutcome}

@@ -2,7 +2,7 @@
 use katan::Key;
 use katan::Refusal;
 use katan::RoundPosition;
-use record::LANES;
+use katan::LANES;
 use record::LENGTH;
 
 // What a loaded lane holds: the key, and the registers at its position.

@@ -15,7 +15,7 @@ use Rattle.katan.specs.Variant.{row32, row48, row64, rowOf, widthOf, isKatan}
 use Rattle.katan.specs.Key.{k, keyBitNumber}
 use Rattle.katan.specs.Clock.{clock, unclock, round, unround, run, unrun, block, registers, inputOf}
 use Rattle.katan.specs.Machine.{registersAt}
-use Rattle.katan.specs.Within.{Sound, Bits, Fits}
+use Rattle.katan.specs.Within.{Sound, Bits, Fits, Entries, AreBits}
 use Rattle.katan.specs.declared.Row.{Row}
 use Rattle.katan.specs.declared.Registers.{Registers}
 use Rattle.katan.specs.declared.RoundInput.{RoundInput}
@@ -24,7 +24,9 @@ use Rattle.katan.proofs.Tables.{entry}
 use Rattle.katan.proofs.Keys.{katan-input, ktantan-input, k-bit}
 use Rattle.katan.proofs.Undo.{sound, clock-fits, unclock-fits, run-fits, unrun-fits}
 use Rattle.katan.proofs.Positions.{at-later, at-earlier, registers-fit}
-use Rattle.cipher.specs.Tables.{AreBits, Entries, roundKeyBit, tableInput, registersBy}
+use Rattle.round_keys.specs.RoundKeys.{roundKeyBit, roundKeyBits}
+use Rattle.round_keys.proofs.RoundBits.{to-entries}
+use Rattle.cipher.specs.Tables.{tableInput, registersBy}
 
 pub table-bits : (counters keys : List ℕ) → AreBits keys → (r : ℕ) → Bits (tableInput counters keys r)
 table-bits counters keys h r =
@@ -82,7 +84,10 @@ module _ (v : Row) (u w : ℕ → RoundInput) (h : (r : ℕ) → r < rounds → 
 abbrev input : ℕ → ℕ → ℕ → RoundInput
 input x y z = record { ir = x; ka = y; kb = z }
 
-module _ (v key : ℕ) (counters keys : List ℕ) (e : counters ≡ tabulate counter 0 rounds) (h : Entries (roundKeyBit v key) (2 * rounds) keys) where
+module _ (v key : ℕ) (counters keys : List ℕ) (e : counters ≡ tabulate counter 0 rounds) (kept : keys ≡ roundKeyBits v key) where
+  h : Entries (roundKeyBit v key) (2 * rounds) keys
+  h = to-entries v key keys kept
+
   table-input : (r : ℕ) → r < rounds → (b : Bool) → leb v 3 ≡ b → tableInput counters keys r ≡ inputOf v key r
   table-input r q b s =
       let t : irOf (getD counters r 0) ≡ irOf (counter r) = ap irOf (ap (λ (xs : List ℕ). getD xs r 0) e ∙ entry counter rounds r 0 q) in

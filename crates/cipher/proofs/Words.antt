@@ -1,12 +1,10 @@
--- Powers of two as words; a number in two words.
+-- Powers of two as words.
 -- Assumes nothing.
-use mathlib.Core.Path.{_≡_, sym, ap, _∙_}
-use Prim.Native.Nat.{ℕ, _+_, _-_, _*_, _/_, _%_, _^_, _<_, _≤_}
+use mathlib.Core.Path.{_≡_}
+use Prim.Native.Nat.{ℕ, _*_, _%_, _^_, _<_}
 use native.Mathlib.Nat.{lt-of-lt-of-le}
 use native.Mathlib.Omega.{arith}
-use lib.Pow.{pow-mono, shl-exact, high, low, shr-shr}
-use Rattle.katan.specs.Bit.{bit}
-use Rattle.katan.proofs.Bits.{bit-mod}
+use lib.Pow.{pow-mono, shl-exact}
 
 -- a bit shifted to a place below 63 stays whole
 pub bit-shifted : (t m : ℕ) → m < 63 → t < 2 → (t * 2 ^ m) % 2 ^ 64 ≡ t * 2 ^ m
@@ -15,14 +13,3 @@ bit-shifted t m h q = shl-exact {a = t} 1 m 64 q (omega arith)
 -- a register of fewer than 64 bits leaves room for a shift
 pub room : {l w : ℕ} → l < 2 ^ w → w < 64 → l < 2 ^ 63
 room {l} {w} h q = lt-of-lt-of-le h (pow-mono {i = w} {j = 63} (omega arith))
-
--- a bit of a number in a low word and the rest
-module _ (h l i : ℕ) (q : l < 2 ^ 64) where
-  pub low-bit : i < 64 → bit l i ≡ bit (h * 2 ^ 64 + l) i
-  low-bit p = ap (λ (y : ℕ). bit y i) (sym (low h 64 q)) ∙ bit-mod 64 (h * 2 ^ 64 + l) i p
-
-  pub high-bit : 64 ≤ i → bit h (i - 64) ≡ bit (h * 2 ^ 64 + l) i
-  high-bit p =
-      let e : 64 + (i - 64) ≡ i = omega arith in
-      ap (λ (y : ℕ). bit y (i - 64)) (sym (high h 64 q))
-      ∙ ap (λ (y : ℕ). y % 2) (shr-shr (h * 2 ^ 64 + l) 64 (i - 64) ∙ ap (λ (y : ℕ). (h * 2 ^ 64 + l) / 2 ^ y) e)

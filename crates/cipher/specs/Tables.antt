@@ -13,17 +13,6 @@ use Rattle.katan.specs.Clock.{run, unrun, block, registers}
 use Rattle.katan.specs.declared.Row.{Row}
 use Rattle.katan.specs.declared.RoundInput.{RoundInput}
 
--- the first n entries of a list go by a rule
-abbrev pub Entries : (ℕ → ℕ) → ℕ → List ℕ → Type 0
-Entries f n xs = (i : ℕ) → i < n → getD xs i 0 ≡ f i
-
-abbrev pub AreBits : List ℕ → Type 0
-AreBits xs = (i : ℕ) → getD xs i 0 < 2
-
--- the key bits of all rounds, ka and then kb
-abbrev pub roundKeyBit : ℕ → ℕ → ℕ → ℕ
-roundKeyBit v key i = pick (isKatan v) (k key i) (bit key (keyBitNumber i))
-
 -- the input of round r, from T of each round and the key bits of all rounds
 abbrev pub tableInput : List ℕ → List ℕ → ℕ → RoundInput
 tableInput counters keys r = record { ir = irOf (getD counters r 0); ka = getD keys (2 * r) 0; kb = getD keys (2 * r + 1) 0 }

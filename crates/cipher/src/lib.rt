@@ -7,7 +7,6 @@ ghost use Rattle.katan.specs.Key.{keyNumber};
 ghost use Rattle.katan.specs.Variant.{rowOf, widthOf};
 ghost use Rattle.katan.specs.Machine.{registersAt};
 ghost use Rattle.cipher.specs.Answers.{outcome, blockAnswer, encryptAnswer, decryptAnswer, registersAnswer};
-use crate::round_keys::round_keys;
 use crate::rounds::between;
 use katan::Key;
 use katan::Refusal;
@@ -16,7 +15,6 @@ use katan::Row;
 use katan::RowAnswer;
 
 mod clock;
-mod round_keys;
 mod rounds;
 
 // What a call answers: a block, or the first fault found.
@@ -31,7 +29,7 @@ fn moved(variant: u8, row: Row, key: Key, q: u8, p: u8, x: u64) -> u64
     ensures { λ r. ⌜ r ≡ registersAt variant (keyNumber key) q x p ⌝ }
 {
     let counters = katan::counters();
-    let keys = round_keys(variant, key);
+    let keys = round_keys::round_keys(variant, key);
     between(variant, row, &counters, &keys, q as usize, p as usize, x)
 }
 
@@ -42,7 +40,7 @@ fn worked(variant: u8, key: &[u8], q: u8, p: u8, x: u64) -> Answer
 {
     match katan::row_of(variant) {
         RowAnswer::Found(row) => {
-            if key.len() != 10 {
+            if key.len() != katan::KEY_BYTES {
                 return Answer::Refused(Refusal::BadLength);
             }
             if katan::too_wide(row.n, x) {

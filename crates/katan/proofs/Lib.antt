@@ -1,5 +1,6 @@
 pub mod Bits
 pub mod Tables
+pub mod Fill
 pub mod Bytes
 pub mod Variants
 pub mod Keys

@@ -6,6 +6,7 @@ use mathlib.Core.List.{List, [], _∷_}
 use lib.Dec.{leb, ltb, eqb}
 use lib.ListN.{length}
 use Rattle.katan.specs.Bit.{pick}
+use Rattle.katan.specs.Sizes.{keyBytes}
 use Rattle.katan.specs.Counter.{rounds}
 use Rattle.katan.specs.Variant.{widthOf}
 use Rattle.katan.specs.declared.Refusal.{Refusal}
@@ -48,7 +49,7 @@ variantCheck v = record { number = 1; fault = pick (leb 1 v) (ltb 6 v) true }
 
 -- 2: a key is not 10 bytes
 abbrev pub keyCheck : List ℕ → Check
-keyCheck key = record { number = 2; fault = not (eqb (length key) 10) }
+keyCheck key = record { number = 2; fault = not (eqb (length key) keyBytes) }
 
 -- 6: a position is over 254
 abbrev pub positionCheck : ℕ → Check

@@ -1,4 +1,5 @@
 pub mod Bit
+pub mod Sizes
 pub mod Counter
 pub mod Variant
 pub mod Key

@@ -1,7 +1,9 @@
--- What the proofs ask of rows, inputs and registers. No promise of a public function cites it.
+-- What the proofs ask of rows, inputs, registers and tables. No promise of a public function cites it.
 -- Assumes nothing.
 use Prim.Native.Nat.{ℕ, _+_, _^_, _<_, _≤_}
 use mathlib.Core.Path.{_≡_}
+use mathlib.Core.List.{List}
+use lib.ListN.{getD}
 use Rattle.katan.specs.declared.Row.{Row}
 use Rattle.katan.specs.declared.Registers.{Registers}
 use Rattle.katan.specs.declared.RoundInput.{RoundInput}
@@ -34,3 +36,10 @@ pub record Bits (u : RoundInput) : Type 0 where
 pub record Fits (v : Row) (s : Registers) : Type 0 where
   pub l1-fits : s .l1 < 2 ^ (v .len1)
   pub l2-fits : s .l2 < 2 ^ (v .len2)
+
+-- the first n entries of a list go by a rule
+abbrev pub Entries : (ℕ → ℕ) → ℕ → List ℕ → Type 0
+Entries f n xs = (i : ℕ) → i < n → getD xs i 0 ≡ f i
+
+abbrev pub AreBits : List ℕ → Type 0
+AreBits xs = (i : ℕ) → getD xs i 0 < 2

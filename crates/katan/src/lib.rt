@@ -15,6 +15,12 @@ mod constants;
 // The rounds are 0 to 253.
 pub const ROUNDS: u8 = 254;
 
+// The lanes of a bench, and the most blocks worked together.
+pub const LANES: usize = 64;
+
+// The bytes of a key.
+pub const KEY_BYTES: usize = 10;
+
 // A row of the variants' table: the block's width, the registers' lengths, the taps of fa and fb, the clocks a round.
 pub struct Row {
     pub n: usize,

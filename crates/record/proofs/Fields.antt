@@ -12,7 +12,8 @@ use lib.Pow.{pow-pos}
 use Rattle.katan.specs.Variant.{row32, rows, rowOf, widthOf}
 use Rattle.katan.specs.Bit.{pick}
 use Rattle.katan.specs.Checks.{Outcome, refused, checked, variantCheck}
-use Rattle.record.specs.Fields.{laneCount, Kind, kindOf, other, lane, count, mask, key, block}
+use Rattle.katan.specs.Sizes.{laneCount}
+use Rattle.record.specs.Fields.{Kind, kindOf, other, lane, count, mask, key, block}
 use Rattle.record.specs.Checks.{nonzero, unknown, loadFields, unused, zeroBytes, wrongCount, noneNamed, checksOf}
 
 pub nonzero-true : (x : ℕ) → (x ≡ 0 → ⊥) → nonzero x ≡ true

@@ -7,7 +7,8 @@ use lib.Dec.{leb, ltb, eqb}
 use lib.ListN.{length, getD}
 use Rattle.katan.specs.Counter.{rounds}
 use Rattle.katan.specs.Checks.{Check, blockCheck}
-use Rattle.record.specs.Fields.{laneCount, recordLength, part, Kind, load, forward, back, clear, other, kind, lane, count, mask, key, block}
+use Rattle.katan.specs.Sizes.{laneCount}
+use Rattle.record.specs.Fields.{recordLength, part, Kind, load, forward, back, clear, other, kind, lane, count, mask, key, block}
 
 abbrev pub nonzero : ℕ → Bool
 nonzero x = not (eqb x 0)

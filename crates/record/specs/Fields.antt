@@ -8,9 +8,7 @@ use mathlib.Core.Bool.{Bool, true, false, _&&_}
 use lib.Dec.{eqb, ltb}
 use lib.ListN.{getD, take, drop}
 use Rattle.katan.specs.Bit.{bit, pick, numberIn}
-
-abbrev pub laneCount : ℕ
-laneCount = 64
+use Rattle.katan.specs.Sizes.{keyBytes}
 
 abbrev pub recordLength : ℕ
 recordLength = 40
@@ -47,7 +45,7 @@ mask s = part s 8 8
 
 -- bytes 16 to 25
 abbrev pub key : List ℕ → ℕ
-key s = part s 16 10
+key s = part s 16 keyBytes
 
 -- bytes 26 to 33
 abbrev pub block : List ℕ → ℕ

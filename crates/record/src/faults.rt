@@ -7,7 +7,7 @@ ghost use Rattle.record.specs.Fields.{load, forward, clear};
 ghost use Rattle.record.specs.Checks.{zeroBytes, loadFields, checksOf};
 ghost use Rattle.record.specs.Answers.{fieldOutcome};
 use crate::FieldAnswer;
-use crate::LANES;
+use katan::LANES;
 use crate::block_of;
 use crate::bytes::byte_at;
 use crate::bytes::word_in;

@@ -18,9 +18,6 @@ use katan::Refusal;
 mod bytes;
 mod faults;
 
-// How many lanes a bench has.
-pub const LANES: usize = 64;
-
 // How many bytes a record has.
 pub const LENGTH: usize = 40;
 
@@ -59,7 +56,7 @@ pub fn mask_of(sent: &[u8]) -> u64
 pub fn key_in(sent: &[u8]) -> Key
     ensures { λ r. ⌜ keyNumber r ≡ key (now (sent .entry)) ⌝ }
 {
-    katan::key_of(bytes_in(sent, 16, 10))
+    katan::key_of(bytes_in(sent, 16, katan::KEY_BYTES))
 }
 
 pub fn block_of(sent: &[u8]) -> u64

@@ -1,4 +1,3 @@
-pub mod Sound
-pub mod Decisions
+pub mod Effects
 pub mod ByteKind
 pub mod ReadCases

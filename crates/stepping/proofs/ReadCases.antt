@@ -7,7 +7,7 @@ use Prim.Native.Nat.{ℕ, _≤_, _<_}
 use lib.ListN.{getD}
 use borrow.Author.Tests.{le-leb, lt-leb}
 use Rattle.katan.specs.Checks.{value, refused}
-use Rattle.record.specs.Fields.{laneCount}
+use Rattle.katan.specs.Sizes.{laneCount}
 use Rattle.bench.specs.declared.Loaded.{Loaded}
 use Rattle.bench.specs.declared.Bench.{Bench}
 use Rattle.bench.specs.declared.Lane.the-variants.{Empty, Held}

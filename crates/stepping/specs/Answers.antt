@@ -4,20 +4,12 @@ use Rattle.katan.specs.Checks.{numberOf, Outcome, value, refused}
 use Rattle.bench.specs.declared.Link.{Link}
 use Rattle.bench.specs.declared.Arrival.{Arrival}
 use Rattle.bench.specs.declared.Arrived.{Arrived}
-use Rattle.bench.specs.Checks.{Turn, counts, repeats}
 use Rattle.stepping.specs.declared.OpenAnswer.{OpenAnswer}
 use Rattle.stepping.specs.declared.OpenAnswer.the-variants.{Opened, Refused as OpenRefused}
-use Rattle.stepping.specs.declared.checks.Decision.{Decision}
-use Rattle.stepping.specs.declared.checks.Decision.the-variants.{Counts, Repeats, Refused}
 
 abbrev pub openOutcome : OpenAnswer → Outcome (Unit {0})
 openOutcome Opened = value tt
 openOutcome (OpenRefused r) = refused (numberOf r)
-
-abbrev pub decisionOutcome : Decision → Outcome Turn
-decisionOutcome Counts = value counts
-decisionOutcome Repeats = value repeats
-decisionOutcome (Refused r) = refused (numberOf r)
 
 -- what an arrival leaves where the link is lent
 abbrev pub leaving : Arrived → Link → Arrival

@@ -2,17 +2,18 @@
 ghost use mathlib.Core.Path.{_≡_};
 ghost use Prim.Native.Nat.{_<_};
 ghost use lib.ListN.{length};
-ghost use Rattle.record.specs.Fields.{laneCount, recordLength, kind, lane, load as loadKind};
+ghost use Rattle.katan.specs.Sizes.{laneCount};
+ghost use Rattle.record.specs.Fields.{recordLength, kind, lane, load as loadKind};
 ghost use Rattle.bench.specs.Bench.{loadedBy, slotsAs, totalAs};
-ghost use Rattle.stepping.specs.Moves.{SoundBench, withSlots};
-use crate::lanes::BenchStep;
-use crate::lanes::Motion;
-use crate::lanes::step_lanes;
+ghost use Rattle.moves.specs.Moves.{SoundBench, withSlots};
 use bench::Bench;
 use bench::Lane;
 use bench::Loaded;
 use bench::Slot;
 use katan::RoundPosition;
+use moves::BenchStep;
+use moves::Motion;
+use moves::step_lanes;
 use record::LENGTH;
 
 // What a load puts into its lane.

@@ -4,9 +4,6 @@ ghost use mathlib.Core.List.{[], _∷_};
 ghost use Rattle.katan.specs.Checks.{value, checked, variantCheck};
 ghost use Rattle.bench.specs.Bench.{freshBench, freshLink, arriveOf, effectOf, readOf, readingAnswer};
 ghost use Rattle.stepping.specs.Answers.{openOutcome, leaving};
-use crate::checks::Decision;
-use crate::checks::bad_bench;
-use crate::checks::decided;
 use crate::counted::bytes_of;
 use crate::counted::step;
 use bench::Arrival;
@@ -17,14 +14,13 @@ use bench::Link;
 use bench::ReadAnswer;
 use bench::Reply;
 use bench::Slot;
+use checks::Decision;
+use katan::LANES;
 use katan::Refusal;
 use katan::RowAnswer;
-use record::LANES;
 use record::LENGTH;
 
-mod checks;
 mod counted;
-mod lanes;
 
 pub fn fresh_link() -> Link
     ensures { λ r. ⌜ r ≡ freshLink ⌝ }
@@ -89,7 +85,7 @@ pub fn open(variant: u8) -> Opening
 fn arrive_core(bench: Bench, link: Link, sent: &[u8]) -> Arrival
     ensures { λ r. ⌜ effectOf r ≡ arriveOf bench link (now (sent .entry)) ⌝ }
 {
-    match decided(bench, link, sent) {
+    match checks::decided(bench, link, sent) {
         Decision::Counts => {
             let number = record::number_of(sent);
             let after = step(bench, sent);
@@ -149,7 +145,7 @@ pub fn arrive_once(bench: Bench, link: Link, sent: &[u8]) -> Arrival
 pub fn read(bench: Bench, lane: usize) -> ReadAnswer
     ensures { λ r. ⌜ readingAnswer r ≡ readOf bench lane ⌝ }
 {
-    if bad_bench(bench) {
+    if checks::bad_bench(bench) {
         return ReadAnswer::Refused(Refusal::BadVariant);
     }
     if LANES <= lane {

@@ -7,7 +7,7 @@ use Rattle.cipher.proofs.moved.Statement.{statement}
 use Rattle.cipher.proofs.moved.Tie as tie
 use Rattle.cipher.proofs.moved.Reads as reads
 use Rattle.cipher.proofs.moved.Lts as lts
-use Rattle.cipher.proofs.round_keys.round_keys.Reads as round-keys-reads
+use Rattle.round_keys.proofs.round_keys.Reads as round-keys-reads
 use Rattle.cipher.proofs.rounds.between.Reads as between-reads
 use Rattle.katan.proofs.counters.Reads as counters-reads
 

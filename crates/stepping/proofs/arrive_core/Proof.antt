@@ -3,8 +3,8 @@ use Rattle.katan.specs.Checks.{value}
 use Rattle.bench.specs.Checks.{counts, decision}
 use Rattle.bench.specs.Bench.{benchView, countedEffect, effectAs, arriveOf}
 use Rattle.bench.proofs.Turns.{counts-next}
-use Rattle.stepping.specs.Answers.{decisionOutcome}
-use Rattle.stepping.proofs.Decisions.{counts-sound, repeat-effect, refused-effect}
+use Rattle.checks.specs.Decision.{decisionOutcome}
+use Rattle.stepping.proofs.Effects.{counts-sound, repeat-effect, refused-effect}
 use borrow.Author.Needs.{needs}
 use Rattle.stepping.proofs.arrive_core.Statement.{statement}
 use Rattle.stepping.proofs.arrive_core.Tie as tie

@@ -7,7 +7,8 @@ use lib.Dec.{leb, ltb}
 use Rattle.katan.specs.Bit.{pick}
 use Rattle.katan.specs.Counter.{rounds}
 use Rattle.katan.specs.Checks.{value, refused, checked}
-use Rattle.record.specs.Fields.{laneCount, load}
+use Rattle.katan.specs.Sizes.{laneCount}
+use Rattle.record.specs.Fields.{load}
 use Rattle.record.specs.Checks.{unknown, unused, zeroBytes, wrongCount, noneNamed, checksOf}
 use Rattle.record.proofs.Fields.{nonzero-true, nonzero-false}
 use borrow.Author.Needs.{needs}

@@ -1,7 +1,8 @@
 use mathlib.Core.Path.{refl, _∙_}
 use Rattle.bench.specs.Bench.{slotsAs, totalAs}
 use Rattle.stepping.proofs.ByteKind.{is-load, is-forward, is-back, is-clear, is-other}
-use Rattle.stepping.proofs.Sound.{none-moved}
+use Rattle.moves.specs.declared.Motion.the-variants.{Forward, Back, Clear}
+use Rattle.moves.proofs.Sound.{all-step, none-moved}
 use borrow.Author.Needs.{needs}
 use Rattle.stepping.proofs.counted.step.Statement.{statement}
 use Rattle.stepping.proofs.counted.step.Tie as tie
@@ -37,19 +38,23 @@ returns-2 : tie.Need-returns-2
 unfolding slotsAs totalAs
 returns-2 c =
     let k = c .before .before in
-    rw (is-forward (k .before .before .before .before .args .sent .now) (k .kind-byte .ensures) (c .before .match .keys2), ← k .before .before .count-of .ensures, ← k .before .mask-of .ensures) (c .step-lanes .ensures)
+    let a = k .before .before .before .before in
+    rw (is-forward (k .before .before .before .before .args .sent .now) (k .kind-byte .ensures) (c .before .match .keys2), ← k .before .before .count-of .ensures, ← k .before .mask-of .ensures) (all-step (a .args .bench) (Forward _) _ (a .pre .0) _ _ (c .step-lanes .ensures))
 
 returns-3 : tie.Need-returns-3
 unfolding slotsAs totalAs
 returns-3 c =
     let k = c .before .before in
-    rw (is-back (k .before .before .before .before .args .sent .now) (k .kind-byte .ensures) (c .before .match .keys3), ← k .before .before .count-of .ensures, ← k .before .mask-of .ensures) (c .step-lanes2 .ensures)
+    let a = k .before .before .before .before in
+    rw (is-back (k .before .before .before .before .args .sent .now) (k .kind-byte .ensures) (c .before .match .keys3), ← k .before .before .count-of .ensures, ← k .before .mask-of .ensures) (all-step (a .args .bench) (Back _) _ (a .pre .0) _ _ (c .step-lanes2 .ensures))
 
 returns-4 : tie.Need-returns-4
 unfolding slotsAs totalAs
 returns-4 c =
     let k = c .before .before in
-    rw (is-clear (k .before .before .before .before .args .sent .now) (k .kind-byte .ensures) (c .before .match .keys4), ← k .before .mask-of .ensures) (c .step-lanes3 .ensures .0, c .step-lanes3 .ensures .1 ∙ none-moved _ _)
+    let a = k .before .before .before .before in
+    let e = all-step (a .args .bench) Clear _ (a .pre .0) _ _ (c .step-lanes3 .ensures) in
+    rw (is-clear (k .before .before .before .before .args .sent .now) (k .kind-byte .ensures) (c .before .match .keys4), ← k .before .mask-of .ensures) (e .0, e .1 ∙ none-moved _ _)
 
 returns-5 : tie.Need-returns-5
 unfolding slotsAs totalAs

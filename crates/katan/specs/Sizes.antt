@@ -1,0 +1,11 @@
+-- How many there are of each: named here and nowhere else.
+-- Assumes nothing.
+use Prim.Native.Nat.{ℕ}
+
+-- the lanes of a bench, and the most blocks worked together
+abbrev pub laneCount : ℕ
+laneCount = 64
+
+-- the bytes of a key
+abbrev pub keyBytes : ℕ
+keyBytes = 10

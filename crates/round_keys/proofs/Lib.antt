@@ -1,0 +1,2 @@
+pub mod RoundBits
+pub mod TwoWords
