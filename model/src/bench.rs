@@ -129,6 +129,14 @@ impl Fields {
     }
 }
 
+/// What a loaded lane holds.
+#[derive(Clone, Copy, Debug, PartialEq, Eq)]
+pub struct Lane {
+    pub key: [u8; 10],
+    pub position: u8,
+    pub registers: u64,
+}
+
 /// What the link remembers: the last counted number, its record and its total.
 struct Link {
     last: u32,
@@ -160,8 +168,61 @@ impl Bench {
         }
     }
 
+    /// A bench and link as they are handed in. 1: the variant is not 1 to 6, or a loaded lane has a
+    /// position over 254 or a register bit set at n or above.
+    pub fn from_lanes(
+        variant: u8,
+        lanes: &[Option<Lane>; LANES],
+        last: u32,
+        record: &[u8; RECORD_LENGTH],
+        total: u32,
+    ) -> Result<Bench, u8> {
+        let mut bench = Bench::new(variant)?;
+        for (machine, lane) in bench.machines.iter_mut().zip(lanes) {
+            let Some(lane) = lane else { continue };
+            if lane.position > ROUNDS || !bench.variant.is_block(lane.registers) {
+                return Err(1);
+            }
+            *machine = Machine::Loaded {
+                key: lane.key,
+                block: lane.registers,
+                q: lane.position,
+                p: lane.position,
+            };
+        }
+        bench.link = Link {
+            last,
+            record: record.to_vec(),
+            total,
+        };
+        Ok(bench)
+    }
+
+    /// What a lane from 0 to 63 holds; none where it is empty.
+    pub fn lane(&self, lane: usize) -> Option<Lane> {
+        match (self.machines[lane], self.read(lane as u64)) {
+            (
+                Machine::Loaded { key, .. },
+                Reading::At {
+                    position,
+                    registers,
+                },
+            ) => Some(Lane {
+                key,
+                position,
+                registers,
+            }),
+            _ => None,
+        }
+    }
+
     pub fn variant(&self) -> Variant {
         self.variant
+    }
+
+    /// The total of the latest counted record; 0 if none has counted.
+    pub fn total(&self) -> u32 {
+        self.link.total
     }
 
     /// The last counted number; 0 if none has counted.

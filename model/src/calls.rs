@@ -49,6 +49,38 @@ pub fn call_decrypt(variant: u8, key: &[u8], block: u64) -> Result<u64, Refusal>
     Ok(decrypt(variant, key, block))
 }
 
+#[derive(Clone, Copy, Debug, PartialEq, Eq)]
+pub enum Direction {
+    Encrypt,
+    Decrypt,
+}
+
+/// Many blocks: the results into `out`, or the first fault in the order 1, 2, 7.
+pub fn call_many(
+    direction: Direction,
+    variant: u8,
+    keys: &[u8],
+    blocks: &[u64],
+    out: &mut [u64],
+) -> Result<(), Refusal> {
+    let variant = checked_variant(variant)?;
+    let n = blocks.len();
+    if n == 0 || n > 64 || keys.len() != 10 * n || out.len() != n {
+        return Err(Refusal(2));
+    }
+    for block in blocks {
+        checked_block(variant, *block)?;
+    }
+    for (i, block) in blocks.iter().enumerate() {
+        let key = checked_key(&keys[10 * i..10 * i + 10])?;
+        out[i] = match direction {
+            Direction::Encrypt => encrypt(variant, key, *block),
+            Direction::Decrypt => decrypt(variant, key, *block),
+        };
+    }
+    Ok(())
+}
+
 pub fn call_registers_at(
     variant: u8,
     key: &[u8; 10],

@@ -1,8 +1,8 @@
 // The bench of lanes and the link: types, and, in specs/, what an arrival and a read make of them.
 use katan::Key;
+use katan::LANES;
 use katan::Refusal;
 use katan::RoundPosition;
-use katan::LANES;
 use record::LENGTH;
 
 // What a loaded lane holds: the key, and the registers at its position.

@@ -78,7 +78,7 @@ unrun v u p (suc c) s = unrun v u p c (unround v (u (p + c)) s)
 
 -- IR, ka and kb of round r, with t its T and ks its variant's round keys
 abbrev pub inputAt : ℕ → List ℕ → ℕ → ℕ → RoundInput
-inputAt v ks t r = record { ir = irOf t; ka = kaOf xor 0 v ks t r; kb = kbOf xor 0 v ks t r }
+inputAt v ks t r = record { ir = irOf t; ka = kaOf 0 v ks t r; kb = kbOf 0 v ks t r }
 
 unfoldable pub inputOf : ℕ → ℕ → ℕ → RoundInput
 inputOf v key r = inputAt v (roundKeys xor 0 v (keyBits key)) (counter r) r

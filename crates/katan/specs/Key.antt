@@ -48,6 +48,8 @@ module _ {B : Type 0} (_⊕_ : B → B → B) (z : B) where
   abbrev pub roundKeys : ℕ → List B → List B
   roundKeys v key = pick (isKatan v) (kList key (2 * rounds - keyLength)) key
 
+-- over any bits
+module _ {B : Type 0} (z : B) where
   -- ka and kb of round r, with t its T and ks its variant's round keys
   abbrev pub kaOf : ℕ → List B → ℕ → ℕ → B
   kaOf v ks t r = getD ks (pick (isKatan v) (2 * r) (kaNumber t)) z

@@ -7,7 +7,6 @@ ghost use Rattle.record.specs.Fields.{load, forward, clear};
 ghost use Rattle.record.specs.Checks.{zeroBytes, loadFields, checksOf};
 ghost use Rattle.record.specs.Answers.{fieldOutcome};
 use crate::FieldAnswer;
-use katan::LANES;
 use crate::block_of;
 use crate::bytes::byte_at;
 use crate::bytes::word_in;
@@ -15,6 +14,7 @@ use crate::count_of;
 use crate::key_in;
 use crate::lane_of;
 use crate::mask_of;
+use katan::LANES;
 use katan::Refusal;
 use katan::RowAnswer;
 

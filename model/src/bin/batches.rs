@@ -1,7 +1,8 @@
 //! Prints the output expected of the Rattle program `batches`: batches of every length, both ways,
 //! for each variant, and calls that are refused.
 
-use katan_model::{decrypt, encrypt, Variant};
+use katan_model::calls::{call_many, Direction};
+use katan_model::Variant;
 
 /// Xorshift, the generator that `batches` has too.
 fn next(mut x: u64) -> u64 {
@@ -12,38 +13,6 @@ fn next(mut x: u64) -> u64 {
 
 fn numbers(seed: u64) -> impl Iterator<Item = u64> {
     std::iter::successors(Some(next(seed)), |x| Some(next(*x)))
-}
-
-#[derive(Clone, Copy)]
-enum Direction {
-    Encrypt,
-    Decrypt,
-}
-
-/// What a call of many blocks makes of them, or its refusal's number: the first fault in the order 1, 2, 7.
-fn many(
-    direction: Direction,
-    variant: u8,
-    keys: &[u8],
-    blocks: &[u64],
-    out: &mut [u64],
-) -> Result<(), u8> {
-    let variant = Variant::from_number(variant).ok_or(1)?;
-    let n = blocks.len();
-    if n == 0 || n > 64 || keys.len() != 10 * n || out.len() != n {
-        return Err(2);
-    }
-    if !blocks.iter().all(|block| variant.is_block(*block)) {
-        return Err(7);
-    }
-    for i in 0..n {
-        let key = keys[10 * i..10 * i + 10].try_into().unwrap();
-        out[i] = match direction {
-            Direction::Encrypt => encrypt(variant, &key, blocks[i]),
-            Direction::Decrypt => decrypt(variant, &key, blocks[i]),
-        };
-    }
-    Ok(())
 }
 
 /// All results in one number, in their order.
@@ -66,7 +35,7 @@ fn batch(k: u64) {
         .take(64)
         .collect();
     let mut out = [0; 64];
-    let done = many(
+    let done = call_many(
         direction,
         number,
         &keys[..10 * n],
@@ -80,7 +49,7 @@ fn batch(k: u64) {
 /// A call with zero keys and equal blocks, on outputs that are all 7.
 fn call(variant: u8, keys: usize, blocks: usize, results: usize, block: u64) {
     let mut out = [7; 65];
-    let answer = many(
+    let answer = call_many(
         Direction::Encrypt,
         variant,
         &[0; 650][..keys],
@@ -89,7 +58,7 @@ fn call(variant: u8, keys: usize, blocks: usize, results: usize, block: u64) {
     );
     match answer {
         Ok(()) => println!("done {:016x}", digest(&out)),
-        Err(number) => println!("refused {number} {:016x}", digest(&out)),
+        Err(refusal) => println!("refused {} {:016x}", refusal.0, digest(&out)),
     }
 }
 

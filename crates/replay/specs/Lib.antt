@@ -1,0 +1,4 @@
+pub mod Encoding
+pub mod Written
+pub mod Steps
+pub mod Replay

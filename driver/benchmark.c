@@ -1,0 +1,178 @@
+// Measures the proved code beside plain C, in one run: the results are compared first, then each is timed many times, taking
+// turns, and the best time of each counts. A ratio above 1 says that the proved code is faster.
+#include "katan_bench.h"
+#include "peers.h"
+
+#include <stdio.h>
+#include <stdlib.h>
+#include <string.h>
+#include <time.h>
+
+enum { LANES = 64, REPEATS = 200 };
+
+static uint8_t keys[10 * LANES];
+static uint64_t blocks[LANES], out[LANES], expected[LANES];
+
+static uint64_t random_state = 88172645463325252u;
+
+static uint64_t random64(void) {
+    random_state ^= random_state << 13;
+    random_state ^= random_state >> 7;
+    random_state ^= random_state << 17;
+    return random_state;
+}
+
+static int width(int variant) { return 32 + 16 * ((variant - 1) % 3); }
+
+static void fill(int variant) {
+    for (size_t i = 0; i < sizeof keys; i++) keys[i] = random64() >> 32;
+    for (int i = 0; i < LANES; i++) blocks[i] = random64() >> (64 - width(variant));
+}
+
+static void must(int holds, const char *what) {
+    if (!holds) {
+        fprintf(stderr, "benchmark: %s\n", what);
+        exit(1);
+    }
+}
+
+static double nanoseconds(void) {
+    struct timespec t;
+    clock_gettime(CLOCK_MONOTONIC, &t);
+    return 1e9 * t.tv_sec + t.tv_nsec;
+}
+
+// ---- what is measured: 64 blocks
+
+static void our_many(int variant, int decrypt, const uint8_t *k, const uint64_t *in, uint64_t *to, size_t n) {
+    uint8_t status = decrypt ? katan_decrypt_many(variant, k, 10 * n, in, n, to, n)
+                             : katan_encrypt_many(variant, k, 10 * n, in, n, to, n);
+    must(status == 0, "a call of many blocks was refused");
+}
+
+static void our_blocks(int variant, int decrypt, const uint8_t *k, const uint64_t *in, uint64_t *to, size_t n) {
+    for (size_t i = 0; i < n; i++) {
+        uint8_t status = decrypt ? katan_decrypt(variant, k + 10 * i, 10, in[i], to + i, 1)
+                                 : katan_encrypt(variant, k + 10 * i, 10, in[i], to + i, 1);
+        must(status == 0, "a call of one block was refused");
+    }
+}
+
+static many_blocks *const measured[] = {our_blocks, our_many, peer_scalar, peer_sliced, peer_sliced_transposed};
+enum { OUR_BLOCKS, OUR_MANY, SCALAR, SLICED, TRANSPOSED, MEASURED };
+
+static void blocks_table(int decrypt) {
+    printf("\n%s, 64 blocks with 64 keys: times as fast as\n", decrypt ? "Decryption" : "Encryption");
+    printf("variant   one by one:  many together:\n");
+    printf("          plain C      plain C   bit-sliced C   with fast transposes   (ns)\n");
+    for (int variant = 1; variant <= 6; variant++) {
+        double best[MEASURED];
+        for (size_t n = 1; n <= LANES; n++) {
+            fill(variant);
+            peer_scalar(variant, decrypt, keys, blocks, expected, n);
+            for (int i = 0; i < MEASURED; i++) {
+                memset(out, 0, sizeof out);
+                measured[i](variant, decrypt, keys, blocks, out, n);
+                must(memcmp(out, expected, n * sizeof *out) == 0, "results differ");
+            }
+        }
+        for (int i = 0; i < MEASURED; i++) best[i] = 1e18;
+        for (int repeat = 0; repeat < REPEATS; repeat++) {
+            for (int i = 0; i < MEASURED; i++) {
+                double start = nanoseconds();
+                measured[i](variant, decrypt, keys, blocks, out, LANES);
+                double taken = nanoseconds() - start;
+                if (taken < best[i]) best[i] = taken;
+            }
+        }
+        printf("%-9d %-12.2f %-9.0f %-14.1f %-22.1f %.0f\n", variant, best[SCALAR] / best[OUR_BLOCKS],
+               best[SCALAR] / best[OUR_MANY], best[SLICED] / best[OUR_MANY], best[TRANSPOSED] / best[OUR_MANY], best[OUR_MANY]);
+    }
+}
+
+// ---- the bench: arrivals and reads
+
+static uint8_t bench[KATAN_BENCH_LENGTH], kept[KATAN_BENCH_LENGTH];
+static uint8_t linked[KATAN_LINK_LENGTH], kept_link[KATAN_LINK_LENGTH];
+
+static void put(uint8_t *bytes, uint64_t x, int count) {
+    for (int i = 0; i < count; i++) bytes[i] = x >> 8 * i;
+}
+
+static void arrive(const uint8_t *record) {
+    uint32_t answer[3];
+    must(katan_arrive(bench, sizeof bench, linked, sizeof linked, record, KATAN_RECORD_LENGTH, answer, 3) == 0, "an arrival was refused");
+}
+
+static void move_record(uint8_t *record, uint32_t number, uint64_t mask, uint8_t count) {
+    memset(record, 0, KATAN_RECORD_LENGTH);
+    record[0] = 2;
+    record[2] = count;
+    put(record + 4, number, 4);
+    put(record + 8, mask, 8);
+}
+
+// The best time of an arrival on the bench that is kept.
+static double arrival_time(const uint8_t *record) {
+    double best = 1e18;
+    for (int repeat = 0; repeat < REPEATS; repeat++) {
+        memcpy(bench, kept, sizeof bench);
+        memcpy(linked, kept_link, sizeof linked);
+        double start = nanoseconds();
+        arrive(record);
+        double taken = nanoseconds() - start;
+        if (taken < best) best = taken;
+    }
+    return best;
+}
+
+static void bench_table(void) {
+    printf("\nThe bench, 64 lanes loaded at 0\n");
+    printf("variant   forward 1, one lane (ns)   forward 254, 64 lanes: times plain C   a read (ns)\n");
+    for (int variant = 1; variant <= 6; variant++) {
+        uint8_t record[KATAN_RECORD_LENGTH];
+        uint64_t read[2];
+        fill(variant);
+        must(katan_open(variant, bench, sizeof bench, linked, sizeof linked) == 0, "opening was refused");
+        for (int lane = 0; lane < LANES; lane++) {
+            memset(record, 0, sizeof record);
+            record[0] = 1;
+            record[1] = lane;
+            put(record + 4, lane + 1, 4);
+            memcpy(record + 16, keys + 10 * lane, 10);
+            put(record + 26, blocks[lane], 8);
+            arrive(record);
+        }
+        memcpy(kept, bench, sizeof kept);
+        memcpy(kept_link, linked, sizeof kept_link);
+
+        move_record(record, LANES + 1, 1, 1);
+        double step = arrival_time(record);
+        move_record(record, LANES + 1, UINT64_MAX, 254);
+        double all = arrival_time(record);
+
+        double plain = 1e18, reading = 1e18;
+        for (int repeat = 0; repeat < REPEATS; repeat++) {
+            double start = nanoseconds();
+            peer_scalar(variant, 0, keys, blocks, expected, LANES);
+            double middle = nanoseconds();
+            must(katan_read(bench, sizeof bench, 63, read, 2) == 0, "a read was refused");
+            double end = nanoseconds();
+            if (middle - start < plain) plain = middle - start;
+            if (end - middle < reading) reading = end - middle;
+        }
+        for (int lane = 0; lane < LANES; lane++) {
+            must(katan_read(bench, sizeof bench, lane, read, 2) == 0, "a read was refused");
+            must(read[0] == 254 && read[1] == expected[lane], "results differ");
+        }
+        printf("%-9d %-26.0f %-38.2f %.0f\n", variant, step, plain / all, reading);
+    }
+}
+
+int main(void) {
+    peers_init();
+    blocks_table(0);
+    blocks_table(1);
+    bench_table();
+    return 0;
+}

@@ -1,0 +1,196 @@
+#include "peers.h"
+
+#include <string.h>
+
+typedef uint64_t u64;
+typedef uint8_t u8;
+
+#define INLINE static inline __attribute__((always_inline))
+
+enum { ROUNDS = 254, ROUND_KEYS = 2 * ROUNDS, LANES = 64, KEY_BITS = 80 };
+
+static u8 ir[ROUNDS];                // IR of each round
+static u8 key_bit[ROUND_KEYS];       // KTANTAN: the key bit numbers of ka and kb of each round
+
+void peers_init(void) {
+    unsigned t = 0xff;
+    for (int r = 0; r < ROUNDS; r++) {
+        t = (t << 1 & 0xff) | ((t >> 7 ^ t >> 6 ^ t >> 4 ^ t >> 2) & 1);
+        unsigned u = t >> 4, v = t & 3, t32 = t >> 2 & 3;
+        ir[r] = t >> 7;
+        key_bit[2 * r] = t32 == 0 ? u : 16 * (1 + v) + u;
+        key_bit[2 * r + 1] = t32 == 1 ? 64 + u : 16 * (3 - v) + u;
+    }
+}
+
+// ---- one block
+
+static void round_keys(int variant, const u8 *key, u8 *k) {
+    u8 bits[KEY_BITS];
+    for (int i = 0; i < KEY_BITS; i++) bits[i] = key[i / 8] >> i % 8 & 1;
+    if (variant <= 3) {
+        memcpy(k, bits, KEY_BITS);
+        for (int i = KEY_BITS; i < ROUND_KEYS; i++) k[i] = k[i - 80] ^ k[i - 61] ^ k[i - 50] ^ k[i - 13];
+    } else {
+        for (int i = 0; i < ROUND_KEYS; i++) k[i] = bits[key_bit[i]];
+    }
+}
+
+#define BIT(l, i) ((l) >> (i) & 1)
+
+INLINE u64 scalar(int len1, int len2, int x2, int x3, int x4, int x5, int y2, int y3, int y4, int y5, int y6, int clocks,
+                  int decrypt, const u8 *k, u64 block) {
+    int x1 = len1 - 1, y1 = len2 - 1;
+    u64 mask1 = ((u64)1 << len1) - 1, mask2 = ((u64)1 << len2) - 1;
+    u64 l1 = block >> len2, l2 = block & mask2;
+    for (int i = 0; i < ROUNDS; i++) {
+        int r = decrypt ? ROUNDS - 1 - i : i;
+        u64 ka = k[2 * r], kb = k[2 * r + 1], irregular = ir[r];
+        for (int c = 0; c < clocks; c++) {
+            if (!decrypt) {
+                u64 fa = BIT(l1, x1) ^ BIT(l1, x2) ^ (BIT(l1, x3) & BIT(l1, x4)) ^ (BIT(l1, x5) & irregular) ^ ka;
+                u64 fb = BIT(l2, y1) ^ BIT(l2, y2) ^ (BIT(l2, y3) & BIT(l2, y4)) ^ (BIT(l2, y5) & BIT(l2, y6)) ^ kb;
+                l1 = (l1 << 1 | fb) & mask1;
+                l2 = (l2 << 1 | fa) & mask2;
+            } else {
+                u64 fa = l2 & 1, fb = l1 & 1;
+                l1 >>= 1;
+                l2 >>= 1;
+                fa ^= BIT(l1, x2) ^ (BIT(l1, x3) & BIT(l1, x4)) ^ (BIT(l1, x5) & irregular) ^ ka;
+                fb ^= BIT(l2, y2) ^ (BIT(l2, y3) & BIT(l2, y4)) ^ (BIT(l2, y5) & BIT(l2, y6)) ^ kb;
+                l1 |= fa << x1;
+                l2 |= fb << y1;
+            }
+        }
+    }
+    return l1 << len2 | l2;
+}
+
+INLINE u64 one(int variant, int decrypt, const u8 *key, u64 block) {
+    u8 k[ROUND_KEYS];
+    round_keys(variant, key, k);
+    switch (variant) {
+    case 1: case 4: return scalar(13, 19, 7, 8, 5, 3, 7, 12, 10, 8, 3, 1, decrypt, k, block);
+    case 2: case 5: return scalar(19, 29, 12, 15, 7, 6, 19, 21, 13, 15, 6, 2, decrypt, k, block);
+    default: return scalar(25, 39, 15, 20, 11, 9, 25, 33, 21, 14, 9, 3, decrypt, k, block);
+    }
+}
+
+uint64_t peer_one(int variant, int decrypt, const uint8_t *key, uint64_t block) {
+    return decrypt ? one(variant, 1, key, block) : one(variant, 0, key, block);
+}
+
+void peer_scalar(int variant, int decrypt, const u8 *keys, const u64 *blocks, u64 *out, size_t count) {
+    for (size_t i = 0; i < count; i++) out[i] = peer_one(variant, decrypt, keys + 10 * i, blocks[i]);
+}
+
+// ---- bit-sliced: word i of a register holds bit i of all lanes
+
+INLINE void sliced_rounds(int len1, int len2, int x2, int x3, int x4, int x5, int y2, int y3, int y4, int y5, int y6, int clocks,
+                          int decrypt, const u64 *k, u64 *l2) {
+    u64 *l1 = l2 + len2;
+    int x1 = len1 - 1, y1 = len2 - 1;
+    for (int i = 0; i < ROUNDS; i++) {
+        int r = decrypt ? ROUNDS - 1 - i : i;
+        u64 ka = k[2 * r], kb = k[2 * r + 1], irregular = -(u64)ir[r];
+        for (int c = 0; c < clocks; c++) {
+            if (!decrypt) {
+                u64 fa = l1[x1] ^ l1[x2] ^ (l1[x3] & l1[x4]) ^ (l1[x5] & irregular) ^ ka;
+                u64 fb = l2[y1] ^ l2[y2] ^ (l2[y3] & l2[y4]) ^ (l2[y5] & l2[y6]) ^ kb;
+                for (int j = x1; j > 0; j--) l1[j] = l1[j - 1];
+                for (int j = y1; j > 0; j--) l2[j] = l2[j - 1];
+                l1[0] = fb;
+                l2[0] = fa;
+            } else {
+                u64 fa = l2[0], fb = l1[0];
+                for (int j = 0; j < x1; j++) l1[j] = l1[j + 1];
+                for (int j = 0; j < y1; j++) l2[j] = l2[j + 1];
+                l1[x1] = fa ^ l1[x2] ^ (l1[x3] & l1[x4]) ^ (l1[x5] & irregular) ^ ka;
+                l2[y1] = fb ^ l2[y2] ^ (l2[y3] & l2[y4]) ^ (l2[y5] & l2[y6]) ^ kb;
+            }
+        }
+    }
+}
+
+static void sliced_keys(int variant, const u64 *bits, u64 *k) {
+    if (variant <= 3) {
+        memcpy(k, bits, KEY_BITS * sizeof *k);
+        for (int i = KEY_BITS; i < ROUND_KEYS; i++) k[i] = k[i - 80] ^ k[i - 61] ^ k[i - 50] ^ k[i - 13];
+    } else {
+        for (int i = 0; i < ROUND_KEYS; i++) k[i] = bits[key_bit[i]];
+    }
+}
+
+static void sliced(int variant, int decrypt, const u64 *key_words, u64 *words) {
+    u64 k[ROUND_KEYS];
+    sliced_keys(variant, key_words, k);
+    switch (variant) {
+    case 1: case 4:
+        if (decrypt) sliced_rounds(13, 19, 7, 8, 5, 3, 7, 12, 10, 8, 3, 1, 1, k, words);
+        else sliced_rounds(13, 19, 7, 8, 5, 3, 7, 12, 10, 8, 3, 1, 0, k, words);
+        break;
+    case 2: case 5:
+        if (decrypt) sliced_rounds(19, 29, 12, 15, 7, 6, 19, 21, 13, 15, 6, 2, 1, k, words);
+        else sliced_rounds(19, 29, 12, 15, 7, 6, 19, 21, 13, 15, 6, 2, 0, k, words);
+        break;
+    default:
+        if (decrypt) sliced_rounds(25, 39, 15, 20, 11, 9, 25, 33, 21, 14, 9, 3, 1, k, words);
+        else sliced_rounds(25, 39, 15, 20, 11, 9, 25, 33, 21, 14, 9, 3, 0, k, words);
+    }
+}
+
+static int width(int variant) { return 32 + 16 * ((variant - 1) % 3); }
+
+void peer_sliced(int variant, int decrypt, const u8 *keys, const u64 *blocks, u64 *out, size_t count) {
+    u64 words[LANES] = {0}, key_words[KEY_BITS] = {0};
+    int n = width(variant);
+    for (size_t i = 0; i < count; i++) {
+        for (int j = 0; j < n; j++) words[j] |= (blocks[i] >> j & 1) << i;
+        for (int j = 0; j < KEY_BITS; j++) key_words[j] |= (u64)(keys[10 * i + j / 8] >> j % 8 & 1) << i;
+    }
+    sliced(variant, decrypt, key_words, words);
+    for (size_t i = 0; i < count; i++) {
+        u64 block = 0;
+        for (int j = 0; j < n; j++) block |= (words[j] >> i & 1) << j;
+        out[i] = block;
+    }
+}
+
+// Blocks of so many bits are exchanged between rows that lie as far apart.
+INLINE void stage(u64 *rows, int step, u64 mask) {
+    for (int block = 0; block < LANES; block += 2 * step) {
+        for (int i = block; i < block + step; i++) {
+            u64 t = (rows[i] >> step ^ rows[i + step]) & mask;
+            rows[i] ^= t << step;
+            rows[i + step] ^= t;
+        }
+    }
+}
+
+// Bit j of row i becomes bit i of row j.
+static void transpose(u64 *rows) {
+    stage(rows, 32, 0x00000000ffffffff);
+    stage(rows, 16, 0x0000ffff0000ffff);
+    stage(rows, 8, 0x00ff00ff00ff00ff);
+    stage(rows, 4, 0x0f0f0f0f0f0f0f0f);
+    stage(rows, 2, 0x3333333333333333);
+    stage(rows, 1, 0x5555555555555555);
+}
+
+void peer_sliced_transposed(int variant, int decrypt, const u8 *keys, const u64 *blocks, u64 *out, size_t count) {
+    u64 words[LANES] = {0}, low[LANES] = {0}, high[LANES] = {0}, key_words[KEY_BITS];
+    memcpy(words, blocks, count * sizeof *words);
+    for (size_t i = 0; i < count; i++) {
+        memcpy(&low[i], keys + 10 * i, 8);
+        memcpy(&high[i], keys + 10 * i + 8, 2);
+    }
+    transpose(words);
+    transpose(low);
+    transpose(high);
+    memcpy(key_words, low, sizeof low);
+    memcpy(key_words + LANES, high, 16 * sizeof *high);
+    sliced(variant, decrypt, key_words, words);
+    memset(words + width(variant), 0, (LANES - width(variant)) * sizeof *words);
+    transpose(words);
+    memcpy(out, words, count * sizeof *out);
+}

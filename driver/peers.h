@@ -1,0 +1,27 @@
+// KATAN and KTANTAN in plain C, to be measured beside the proved code. All take up to 64 blocks, block i with
+// the key in bytes 10i to 10i + 9.
+#ifndef PEERS_H
+#define PEERS_H
+
+#include <stddef.h>
+#include <stdint.h>
+
+typedef void many_blocks(int variant, int decrypt, const uint8_t *keys, const uint64_t *blocks, uint64_t *out, size_t count);
+
+// Makes the tables. To be called once, first.
+void peers_init(void);
+
+// One block after the other, taps compiled in.
+many_blocks peer_scalar;
+
+// Bit-sliced as the ciphers' authors published it: register arrays that shift at each clock, blocks and keys
+// taken apart bit by bit.
+many_blocks peer_sliced;
+
+// The same with 64 by 64 bit transposes instead.
+many_blocks peer_sliced_transposed;
+
+// One block, as peer_scalar does it.
+uint64_t peer_one(int variant, int decrypt, const uint8_t *key, uint64_t block);
+
+#endif

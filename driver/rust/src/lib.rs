@@ -1,0 +1,372 @@
+//! The KATAN stepping bench for a driver in Rust: safe calls of the proved library.
+//!
+//! Variants are 1 KATAN32, 2 KATAN48, 3 KATAN64, 4 KTANTAN32, 5 KTANTAN48, 6 KTANTAN64. A key is 10
+//! bytes, key bit 8j + b being bit b of byte j; a block is a number below 2^n.
+//!
+//! ```
+//! use katan_bench::{decrypt, encrypt, Refusal};
+//!
+//! let key = [0xff; 10];
+//! let ciphertext = encrypt(1, &key, 0)?;
+//! assert_eq!(ciphertext, 0x7e1ff945);
+//! assert_eq!(decrypt(1, &key, ciphertext)?, 0);
+//! assert_eq!(encrypt(7, &key, 0), Err(Refusal::BadVariant));
+//! # Ok::<(), Refusal>(())
+//! ```
+
+use std::fmt;
+
+pub mod raw;
+
+/// Why a call was turned away.
+#[derive(Clone, Copy, Debug, PartialEq, Eq)]
+pub enum Refusal {
+    /// 1: the variant is not 1 to 6, or a loaded lane of the bench is damaged.
+    BadVariant,
+    /// 2: a record is not 40 bytes, a key not 10, or something else has the wrong length.
+    BadLength,
+    /// 3: the kind is not 1 to 4.
+    BadKind,
+    /// 4: an unused field or a zero byte is not zero.
+    FieldNotZero,
+    /// 5: the lane is over 63.
+    BadLane,
+    /// 6: a load position is over 254, or a move count is 0 or over 254.
+    BadPosition,
+    /// 7: a block is 2^n or more.
+    BadBlock,
+    /// 8: the mask of a move or clear is 0.
+    EmptyMask,
+    /// 9: the number is neither last + 1 nor a nonzero last.
+    OutOfTurn,
+    /// 10: the number is last but the bytes differ.
+    OtherBytes,
+    /// 11: the lane read is empty.
+    EmptyLane,
+    /// 12: the clock rate is 0 or over 2,940,000,000.
+    BadRate,
+}
+
+use Refusal::*;
+
+/// The refusals in the order of their numbers, from 1.
+const REFUSALS: [Refusal; 12] = [
+    BadVariant,
+    BadLength,
+    BadKind,
+    FieldNotZero,
+    BadLane,
+    BadPosition,
+    BadBlock,
+    EmptyMask,
+    OutOfTurn,
+    OtherBytes,
+    EmptyLane,
+    BadRate,
+];
+
+impl Refusal {
+    /// The refusal of a number from 1 to 12.
+    ///
+    /// ```
+    /// use katan_bench::Refusal;
+    /// assert_eq!(Refusal::from_number(9), Some(Refusal::OutOfTurn));
+    /// assert_eq!(Refusal::from_number(0), None);
+    /// ```
+    pub fn from_number(number: u8) -> Option<Refusal> {
+        REFUSALS.get((number as usize).checked_sub(1)?).copied()
+    }
+
+    /// Its number.
+    ///
+    /// ```
+    /// assert_eq!(katan_bench::Refusal::EmptyLane.number(), 11);
+    /// ```
+    pub fn number(self) -> u8 {
+        self as u8 + 1
+    }
+}
+
+impl fmt::Display for Refusal {
+    fn fmt(&self, f: &mut fmt::Formatter) -> fmt::Result {
+        write!(f, "refused {}", self.number())
+    }
+}
+
+impl std::error::Error for Refusal {}
+
+fn checked<A>(status: u8, answer: A) -> Result<A, Refusal> {
+    match status {
+        0 => Ok(answer),
+        number => Err(Refusal::from_number(number).expect("a status is 0 or a refusal's number")),
+    }
+}
+
+/// Encrypts one block.
+pub fn encrypt(variant: u8, key: &[u8], block: u64) -> Result<u64, Refusal> {
+    let mut out = [0];
+    let status = raw::encrypt(variant, key, block, &mut out);
+    checked(status, out[0])
+}
+
+/// Decrypts one block.
+pub fn decrypt(variant: u8, key: &[u8], block: u64) -> Result<u64, Refusal> {
+    let mut out = [0];
+    let status = raw::decrypt(variant, key, block, &mut out);
+    checked(status, out[0])
+}
+
+/// Encrypts 1 to 64 blocks together, block i with the key in bytes 10i to 10i + 9.
+///
+/// ```
+/// let keys = [[0xff; 10], [0; 10]].concat();
+/// let mut out = [0; 2];
+/// katan_bench::encrypt_many(1, &keys, &[0, 0xffffffff], &mut out)?;
+/// assert_eq!(out, [0x7e1ff945, 0x432e61da]);
+/// # Ok::<(), katan_bench::Refusal>(())
+/// ```
+pub fn encrypt_many(
+    variant: u8,
+    keys: &[u8],
+    blocks: &[u64],
+    out: &mut [u64],
+) -> Result<(), Refusal> {
+    checked(raw::encrypt_many(variant, keys, blocks, out), ())
+}
+
+/// Decrypts 1 to 64 blocks together.
+pub fn decrypt_many(
+    variant: u8,
+    keys: &[u8],
+    blocks: &[u64],
+    out: &mut [u64],
+) -> Result<(), Refusal> {
+    checked(raw::decrypt_many(variant, keys, blocks, out), ())
+}
+
+/// The cycles that blocks take.
+///
+/// ```
+/// assert_eq!(katan_bench::cycles(2), 508);
+/// ```
+pub fn cycles(blocks: u32) -> u64 {
+    raw::cycles(blocks)
+}
+
+/// The bit rate at a clock rate.
+///
+/// ```
+/// use katan_bench::{bit_rate, Refusal};
+/// assert_eq!(bit_rate(1, 100_000), Ok(12_598));
+/// assert_eq!(bit_rate(1, 0), Err(Refusal::BadRate));
+/// ```
+pub fn bit_rate(variant: u8, hertz: u64) -> Result<u64, Refusal> {
+    let mut out = [0];
+    let status = raw::bit_rate(variant, hertz, &mut out);
+    checked(status, out[0])
+}
+
+/// The answer to a record that counted, or that was an exact repeat of the last one that did.
+#[derive(Clone, Copy, Debug, PartialEq, Eq)]
+pub enum Reply {
+    Done { number: u32, total: u32 },
+    Again { number: u32, total: u32 },
+}
+
+/// The answer to a read.
+#[derive(Clone, Copy, Debug, PartialEq, Eq)]
+pub struct Reading {
+    pub position: u8,
+    pub registers: u64,
+}
+
+/// A bench of 64 lanes with its link.
+///
+/// ```
+/// use katan_bench::{record, Bench, Reading, Refusal, Reply};
+///
+/// let mut bench = Bench::open(1)?;
+/// bench.arrive(&record::load(1, 0, 0, &[0xff; 10], 0))?;
+/// let step = record::forward(2, 1, 5);
+/// assert_eq!(bench.arrive(&step), Ok(Reply::Done { number: 2, total: 5 }));
+/// // The answer was lost, and the step is sent once more: the lane does not move again.
+/// assert_eq!(bench.arrive(&step), Ok(Reply::Again { number: 2, total: 5 }));
+/// assert_eq!(bench.read(0), Ok(Reading { position: 5, registers: 0x00f8001e }));
+/// assert_eq!(bench.read(1), Err(Refusal::EmptyLane));
+/// # Ok::<(), Refusal>(())
+/// ```
+#[derive(Clone, Debug, PartialEq, Eq)]
+pub struct Bench {
+    bench: [u8; raw::BENCH_LENGTH],
+    link: [u8; raw::LINK_LENGTH],
+}
+
+impl Bench {
+    /// A fresh bench with a fresh link.
+    pub fn open(variant: u8) -> Result<Bench, Refusal> {
+        let mut fresh = Bench {
+            bench: [0; raw::BENCH_LENGTH],
+            link: [0; raw::LINK_LENGTH],
+        };
+        let status = raw::open(variant, &mut fresh.bench, &mut fresh.link);
+        checked(status, fresh)
+    }
+
+    /// A bench and link that were stored. Whatever the bytes hold, each call checks them.
+    pub fn from_bytes(bench: [u8; raw::BENCH_LENGTH], link: [u8; raw::LINK_LENGTH]) -> Bench {
+        Bench { bench, link }
+    }
+
+    /// The bytes to store, of the bench and of its link.
+    pub fn bytes(&self) -> (&[u8; raw::BENCH_LENGTH], &[u8; raw::LINK_LENGTH]) {
+        (&self.bench, &self.link)
+    }
+
+    /// A record of any bytes and length arrives. Only one that is `Done` alters bench and link.
+    pub fn arrive(&mut self, sent: &[u8]) -> Result<Reply, Refusal> {
+        let mut answer = [0; 3];
+        let status = raw::arrive(&mut self.bench, &mut self.link, sent, &mut answer);
+        let [again, number, total] = answer;
+        let reply = match again {
+            0 => Reply::Done { number, total },
+            _ => Reply::Again { number, total },
+        };
+        checked(status, reply)
+    }
+
+    /// The position and registers of a lane of any number.
+    pub fn read(&self, lane: u64) -> Result<Reading, Refusal> {
+        let mut answer = [0; 2];
+        let status = raw::read(&self.bench, lane, &mut answer);
+        let [position, registers] = answer;
+        let reading = Reading {
+            position: position as u8,
+            registers,
+        };
+        checked(status, reading)
+    }
+}
+
+/// One call of a stored run.
+#[derive(Clone, Debug, PartialEq, Eq)]
+pub enum Call {
+    /// A record of any bytes and length arrives.
+    Arrive(Vec<u8>),
+    /// A lane of any number is read.
+    Read(u32),
+}
+
+impl Call {
+    /// Its bytes in a list of calls: kind, a number, and an arrival's record.
+    fn bytes(&self) -> Vec<u8> {
+        let (kind, number, sent): (u8, u32, &[u8]) = match self {
+            Call::Arrive(sent) => (1, sent.len() as u32, sent),
+            Call::Read(lane) => (2, *lane, &[]),
+        };
+        [&[kind], &number.to_le_bytes()[..], sent].concat()
+    }
+}
+
+/// The answer to one call of a stored run.
+#[derive(Clone, Copy, Debug, PartialEq, Eq)]
+pub enum Answer {
+    Reply(Reply),
+    Reading(Reading),
+    Refused(Refusal),
+}
+
+impl Answer {
+    fn from_bytes(bytes: &[u8]) -> Answer {
+        let number = u32::from_le_bytes(bytes[1..5].try_into().unwrap());
+        let long = u64::from_le_bytes(bytes[5..].try_into().unwrap());
+        let total = long as u32;
+        match bytes[0] {
+            1 => Answer::Reply(Reply::Done { number, total }),
+            2 => Answer::Reply(Reply::Again { number, total }),
+            3 => Answer::Reading(Reading {
+                position: number as u8,
+                registers: long,
+            }),
+            _ => Answer::Refused(
+                Refusal::from_number(number as u8).expect("an answer is one of four kinds"),
+            ),
+        }
+    }
+}
+
+/// A whole list of calls, from a fresh bench and link: the answer to each, and the bench's bytes as the
+/// list left it.
+///
+/// ```
+/// use katan_bench::{record, replay, Answer, Call, Reading, Refusal};
+///
+/// let calls = [
+///     Call::Arrive(record::load(1, 0, 0, &[0xff; 10], 0).to_vec()),
+///     Call::Arrive(record::forward(2, 1, 5).to_vec()),
+///     Call::Read(0),
+///     Call::Read(300),
+/// ];
+/// let (answers, _bench) = replay(1, &calls)?;
+/// assert_eq!(answers[2], Answer::Reading(Reading { position: 5, registers: 0x00f8001e }));
+/// assert_eq!(answers[3], Answer::Refused(Refusal::BadLane));
+/// # Ok::<(), Refusal>(())
+/// ```
+pub fn replay(
+    variant: u8,
+    calls: &[Call],
+) -> Result<(Vec<Answer>, [u8; raw::BENCH_LENGTH]), Refusal> {
+    let list: Vec<u8> = calls.iter().flat_map(Call::bytes).collect();
+    let mut bench = [0; raw::BENCH_LENGTH];
+    let mut answers = vec![0; raw::ANSWER_LENGTH * calls.len()];
+    let status = raw::replay(variant, &list, &mut bench, &mut answers);
+    let answers = || {
+        answers
+            .chunks(raw::ANSWER_LENGTH)
+            .map(Answer::from_bytes)
+            .collect()
+    };
+    checked(status, ())?;
+    Ok((answers(), bench))
+}
+
+/// The 40 bytes of each kind of record.
+pub mod record {
+    /// The bytes of a record.
+    pub const LENGTH: usize = 40;
+
+    fn fields(kind: u8, lane: u8, count: u8, number: u32) -> [u8; LENGTH] {
+        let mut bytes = [0; LENGTH];
+        bytes[..3].copy_from_slice(&[kind, lane, count]);
+        bytes[4..8].copy_from_slice(&number.to_le_bytes());
+        bytes
+    }
+
+    fn masked(kind: u8, number: u32, mask: u64, count: u8) -> [u8; LENGTH] {
+        let mut bytes = fields(kind, 0, count, number);
+        bytes[8..16].copy_from_slice(&mask.to_le_bytes());
+        bytes
+    }
+
+    /// Loads a block at a position into a lane.
+    pub fn load(number: u32, lane: u8, position: u8, key: &[u8; 10], block: u64) -> [u8; LENGTH] {
+        let mut bytes = fields(1, lane, position, number);
+        bytes[16..26].copy_from_slice(key);
+        bytes[26..34].copy_from_slice(&block.to_le_bytes());
+        bytes
+    }
+
+    /// Steps the lanes of a mask forward by rounds.
+    pub fn forward(number: u32, mask: u64, count: u8) -> [u8; LENGTH] {
+        masked(2, number, mask, count)
+    }
+
+    /// Steps them back.
+    pub fn back(number: u32, mask: u64, count: u8) -> [u8; LENGTH] {
+        masked(3, number, mask, count)
+    }
+
+    /// Empties them.
+    pub fn clear(number: u32, mask: u64) -> [u8; LENGTH] {
+        masked(4, number, mask, 0)
+    }
+}

@@ -1,0 +1,205 @@
+//! The driver's functions as they are, on slices: each returns 0 or the number of the first fault
+//! found, and a refused call leaves every output as it was. They take any lengths and any bytes.
+
+/// The bytes of a bench: its variant, then 64 lanes of 20 bytes.
+pub const BENCH_LENGTH: usize = 1281;
+
+/// The bytes of a link.
+pub const LINK_LENGTH: usize = 48;
+
+/// The bytes of an answer in the output of [`replay`].
+pub const ANSWER_LENGTH: usize = 13;
+
+mod c {
+    extern "C" {
+        pub fn katan_encrypt(
+            variant: u8,
+            key: *const u8,
+            key_length: usize,
+            block: u64,
+            out: *mut u64,
+            out_length: usize,
+        ) -> u8;
+        pub fn katan_decrypt(
+            variant: u8,
+            key: *const u8,
+            key_length: usize,
+            block: u64,
+            out: *mut u64,
+            out_length: usize,
+        ) -> u8;
+        pub fn katan_encrypt_many(
+            variant: u8,
+            keys: *const u8,
+            keys_length: usize,
+            blocks: *const u64,
+            blocks_length: usize,
+            out: *mut u64,
+            out_length: usize,
+        ) -> u8;
+        pub fn katan_decrypt_many(
+            variant: u8,
+            keys: *const u8,
+            keys_length: usize,
+            blocks: *const u64,
+            blocks_length: usize,
+            out: *mut u64,
+            out_length: usize,
+        ) -> u8;
+        pub fn katan_cycles(blocks: u32) -> u64;
+        pub fn katan_bit_rate(variant: u8, hertz: u64, out: *mut u64, out_length: usize) -> u8;
+        pub fn katan_open(
+            variant: u8,
+            bench: *mut u8,
+            bench_length: usize,
+            link: *mut u8,
+            link_length: usize,
+        ) -> u8;
+        pub fn katan_arrive(
+            bench: *mut u8,
+            bench_length: usize,
+            link: *mut u8,
+            link_length: usize,
+            sent: *const u8,
+            sent_length: usize,
+            answer: *mut u32,
+            answer_length: usize,
+        ) -> u8;
+        pub fn katan_read(
+            bench: *const u8,
+            bench_length: usize,
+            lane: u64,
+            answer: *mut u64,
+            answer_length: usize,
+        ) -> u8;
+        pub fn katan_replay(
+            variant: u8,
+            calls: *const u8,
+            calls_length: usize,
+            bench: *mut u8,
+            bench_length: usize,
+            answers: *mut u8,
+            answers_length: usize,
+        ) -> u8;
+    }
+}
+
+// SAFETY, of every block below: a slice's pointer and length name memory that is valid for the call;
+// shared slices are only read, and exclusive ones overlap nothing else. The functions keep no pointer.
+
+pub fn encrypt(variant: u8, key: &[u8], block: u64, out: &mut [u64]) -> u8 {
+    unsafe {
+        c::katan_encrypt(
+            variant,
+            key.as_ptr(),
+            key.len(),
+            block,
+            out.as_mut_ptr(),
+            out.len(),
+        )
+    }
+}
+
+pub fn decrypt(variant: u8, key: &[u8], block: u64, out: &mut [u64]) -> u8 {
+    unsafe {
+        c::katan_decrypt(
+            variant,
+            key.as_ptr(),
+            key.len(),
+            block,
+            out.as_mut_ptr(),
+            out.len(),
+        )
+    }
+}
+
+pub fn encrypt_many(variant: u8, keys: &[u8], blocks: &[u64], out: &mut [u64]) -> u8 {
+    unsafe {
+        c::katan_encrypt_many(
+            variant,
+            keys.as_ptr(),
+            keys.len(),
+            blocks.as_ptr(),
+            blocks.len(),
+            out.as_mut_ptr(),
+            out.len(),
+        )
+    }
+}
+
+pub fn decrypt_many(variant: u8, keys: &[u8], blocks: &[u64], out: &mut [u64]) -> u8 {
+    unsafe {
+        c::katan_decrypt_many(
+            variant,
+            keys.as_ptr(),
+            keys.len(),
+            blocks.as_ptr(),
+            blocks.len(),
+            out.as_mut_ptr(),
+            out.len(),
+        )
+    }
+}
+
+pub fn cycles(blocks: u32) -> u64 {
+    unsafe { c::katan_cycles(blocks) }
+}
+
+pub fn bit_rate(variant: u8, hertz: u64, out: &mut [u64]) -> u8 {
+    unsafe { c::katan_bit_rate(variant, hertz, out.as_mut_ptr(), out.len()) }
+}
+
+pub fn open(variant: u8, bench: &mut [u8], link: &mut [u8]) -> u8 {
+    unsafe {
+        c::katan_open(
+            variant,
+            bench.as_mut_ptr(),
+            bench.len(),
+            link.as_mut_ptr(),
+            link.len(),
+        )
+    }
+}
+
+/// The answer is 0 for 'done' or 1 for 'again', then number and total.
+pub fn arrive(bench: &mut [u8], link: &mut [u8], sent: &[u8], answer: &mut [u32]) -> u8 {
+    unsafe {
+        c::katan_arrive(
+            bench.as_mut_ptr(),
+            bench.len(),
+            link.as_mut_ptr(),
+            link.len(),
+            sent.as_ptr(),
+            sent.len(),
+            answer.as_mut_ptr(),
+            answer.len(),
+        )
+    }
+}
+
+/// The answer is the position, then the registers.
+pub fn read(bench: &[u8], lane: u64, answer: &mut [u64]) -> u8 {
+    unsafe {
+        c::katan_read(
+            bench.as_ptr(),
+            bench.len(),
+            lane,
+            answer.as_mut_ptr(),
+            answer.len(),
+        )
+    }
+}
+
+pub fn replay(variant: u8, calls: &[u8], bench: &mut [u8], answers: &mut [u8]) -> u8 {
+    unsafe {
+        c::katan_replay(
+            variant,
+            calls.as_ptr(),
+            calls.len(),
+            bench.as_mut_ptr(),
+            bench.len(),
+            answers.as_mut_ptr(),
+            answers.len(),
+        )
+    }
+}

@@ -1,0 +1,489 @@
+//! Every function of the driver against the independent model, on sound and damaged input. The seed is
+//! printed; `KATAN_SEED` gives another, and `KATAN_CALLS` how many calls each test makes.
+
+use katan_bench::raw::{self, BENCH_LENGTH, LINK_LENGTH};
+use katan_bench::{replay, Answer, Call, Reading, Refusal, Reply};
+use katan_model::calls::Direction;
+use katan_model::{bench as records, driver as model, Random, Variant};
+
+/// A number from the environment, or the one given.
+fn setting(name: &str, usual: u64) -> u64 {
+    std::env::var(name).map_or(usual, |text| {
+        text.parse()
+            .unwrap_or_else(|_| panic!("{name} is not a number: {text}"))
+    })
+}
+
+/// The generator of a test, and how many calls the test makes.
+fn start(test: &str, usual: u64) -> (Random, u64) {
+    let seed = setting("KATAN_SEED", 1);
+    let calls = setting("KATAN_CALLS", usual);
+    println!("{test}: KATAN_SEED={seed} KATAN_CALLS={calls}");
+    let salt = test.bytes().fold(0, |h: u64, byte| h * 31 + byte as u64);
+    (Random::new(seed ^ salt << 20), calls)
+}
+
+fn one_of<T: Clone>(random: &mut Random, choices: &[T]) -> T {
+    choices[random.below(choices.len() as u64) as usize].clone()
+}
+
+/// A variant number, mostly 1 to 6.
+fn variant(random: &mut Random) -> u8 {
+    match random.below(12) {
+        0 => one_of(random, &[0, 7, 8, 255]),
+        _ => 1 + random.below(6) as u8,
+    }
+}
+
+fn width(variant: u8) -> u32 {
+    Variant::from_number(variant).map_or(32, |variant| variant.width())
+}
+
+/// A block, mostly below 2^n; at either end now and then.
+fn block(random: &mut Random, variant: u8) -> u64 {
+    let width = width(variant);
+    let largest = u64::MAX >> (64 - width);
+    match random.below(16) {
+        0 => random.next_u64(),
+        1 => largest,
+        2 => largest.wrapping_add(1),
+        _ => random.bits(width),
+    }
+}
+
+/// A length, mostly the one given.
+fn length(random: &mut Random, right: usize) -> usize {
+    match random.below(16) {
+        0 => right.saturating_sub(1),
+        1 => right + 1,
+        2 => random.below(2 * right as u64 + 3) as usize,
+        _ => right,
+    }
+}
+
+#[test]
+fn one_block() {
+    let (mut random, calls) = start("one_block", 30_000);
+    for _ in 0..calls {
+        let variant = variant(&mut random);
+        let key_length = length(&mut random, 10);
+        let key = random.bytes(key_length);
+        let block = block(&mut random, variant);
+        let out_length = length(&mut random, 1);
+        let out: Vec<u64> = (0..out_length).map(|_| random.next_u64()).collect();
+        let (mut ours, mut theirs) = (out.clone(), out);
+        let context =
+            format!("variant {variant}, key {key:02x?}, block {block:x}, {out_length} words");
+        let (got, expected) = if random.below(2) == 0 {
+            (
+                raw::encrypt(variant, &key, block, &mut ours),
+                model::encrypt(variant, &key, block, &mut theirs),
+            )
+        } else {
+            (
+                raw::decrypt(variant, &key, block, &mut ours),
+                model::decrypt(variant, &key, block, &mut theirs),
+            )
+        };
+        assert_eq!((got, ours), (expected, theirs), "{context}");
+    }
+}
+
+/// Every length from 0 to 66, every variant, both ways; then random lengths and faults.
+#[test]
+fn many_blocks() {
+    let (mut random, calls) = start("many_blocks", 3_000);
+    let mut cases: Vec<(u8, Direction, usize)> = Vec::new();
+    for variant in 0..=7 {
+        for direction in [Direction::Encrypt, Direction::Decrypt] {
+            cases.extend((0..=66).map(|blocks| (variant, direction, blocks)));
+        }
+    }
+    for (i, (variant, direction, count)) in cases.iter().cycle().take(calls as usize).enumerate() {
+        let exact = i < cases.len();
+        let mut near = |right| {
+            if exact {
+                right
+            } else {
+                length(&mut random, right)
+            }
+        };
+        let (keys_length, out_length) = (near(10 * count), near(*count));
+        let keys = random.bytes(keys_length);
+        let blocks: Vec<u64> = (0..*count)
+            .map(|_| {
+                if exact {
+                    random.bits(width(*variant))
+                } else {
+                    block(&mut random, *variant)
+                }
+            })
+            .collect();
+        let out: Vec<u64> = (0..out_length).map(|_| random.next_u64()).collect();
+        let (mut ours, mut theirs) = (out.clone(), out);
+        let got = match direction {
+            Direction::Encrypt => raw::encrypt_many(*variant, &keys, &blocks, &mut ours),
+            Direction::Decrypt => raw::decrypt_many(*variant, &keys, &blocks, &mut ours),
+        };
+        let expected = model::many(*direction, *variant, &keys, &blocks, &mut theirs);
+        assert_eq!(
+            (got, ours),
+            (expected, theirs),
+            "variant {variant}, {direction:?}, keys {keys:02x?}, blocks {blocks:x?}"
+        );
+    }
+}
+
+#[test]
+fn rate_sheet() {
+    let (mut random, calls) = start("rate_sheet", 20_000);
+    for _ in 0..calls {
+        let blocks = random.bits(32) as u32;
+        assert_eq!(raw::cycles(blocks), model::cycles(blocks));
+        let variant = variant(&mut random);
+        let limit = 2_940_000_000;
+        let hertz = match random.below(6) {
+            0 => one_of(
+                &mut random,
+                &[0, 1, 100_000, limit, limit + 1, 1 << 32, u64::MAX],
+            ),
+            1 => random.next_u64(),
+            _ => random.below(limit + 2),
+        };
+        let out = vec![random.next_u64(); length(&mut random, 1)];
+        let (mut ours, mut theirs) = (out.clone(), out);
+        let got = raw::bit_rate(variant, hertz, &mut ours);
+        let expected = model::bit_rate(variant, hertz, &mut theirs);
+        assert_eq!(
+            (got, ours),
+            (expected, theirs),
+            "variant {variant}, {hertz} Hz"
+        );
+    }
+    assert_eq!(raw::cycles(u32::MAX), model::cycles(u32::MAX));
+}
+
+/// A sound record of any kind, numbered so.
+fn record(random: &mut Random, variant: u8, number: u32) -> Vec<u8> {
+    let mask = match random.below(4) {
+        0 => 1 << random.below(64),
+        1 => u64::MAX,
+        _ => random.next_u64() | 1,
+    };
+    let count = match random.below(3) {
+        0 => one_of(random, &[1, 2, 253, 254]),
+        _ => 1 + random.below(254) as u8,
+    };
+    match random.below(8) {
+        0..=2 => {
+            let key = random.key();
+            let lane = one_of(random, &[0, 1, 2, 31, 32, 62, 63]);
+            let position = random.below(255) as u8;
+            let width = width(variant);
+            records::load(number, lane, position, &key, random.bits(width))
+        }
+        3 | 4 => records::forward(number, mask, count),
+        5 | 6 => records::back(number, mask, count),
+        _ => records::clear(number, mask),
+    }
+}
+
+/// One fault of any number from 2 to 10, put into a record of 40 bytes.
+fn fault(random: &mut Random, sent: &mut Vec<u8>) {
+    match random.below(9) {
+        0 => {
+            let length = one_of(random, &[0, 1, 39, 41, 80, 400]);
+            sent.resize(length, 0);
+        }
+        1 => sent[0] = one_of(random, &[0, 5, 6, 128, 255]),
+        2 => sent[one_of(random, &[3, 34, 35, 36, 37, 38, 39])] = 1 << random.below(8),
+        3 => sent[1] = one_of(random, &[64, 65, 127, 128, 255]),
+        4 => sent[2] = one_of(random, &[0, 255]),
+        5 => sent[26 + random.below(8) as usize] = random.bits(8) as u8,
+        6 => sent[8..16].fill(0),
+        7 => sent[4 + random.below(4) as usize] ^= 1 << random.below(8),
+        _ => sent[random.below(40) as usize] ^= 1 << random.below(8),
+    }
+}
+
+/// A record of any kind, in turn or not, with no fault, one or two, or a repeat of the latest one.
+fn arrival(random: &mut Random, variant: u8, last: u32, latest: &[u8]) -> Vec<u8> {
+    let number = match random.below(10) {
+        0 => last,
+        1 => one_of(random, &[0, 1, last.wrapping_add(2), u32::MAX]),
+        2 => random.bits(32) as u32,
+        _ => last.wrapping_add(1),
+    };
+    let mut sent = match random.below(6) {
+        0 if latest.len() == records::RECORD_LENGTH => latest.to_vec(),
+        _ => record(random, variant, number),
+    };
+    for _ in 0..one_of(random, &[0, 0, 0, 1, 1, 2]) {
+        if sent.len() == records::RECORD_LENGTH {
+            fault(random, &mut sent);
+        }
+    }
+    sent
+}
+
+/// Bench and link as a driver may hand them in: every lane empty or loaded at some position, with bytes
+/// in empty lanes too, and now and then damaged.
+fn memory(random: &mut Random) -> (Vec<u8>, Vec<u8>) {
+    let variant = variant(random);
+    let mut bench = random.bytes(BENCH_LENGTH);
+    bench[0] = variant;
+    for lane in bench[1..].chunks_mut(model::LANE_LENGTH) {
+        lane[0] = random.below(2) as u8;
+        lane[1] = random.below(255) as u8;
+        let registers = random.bits(width(variant));
+        lane[12..].copy_from_slice(&registers.to_le_bytes());
+    }
+    let mut link = random.bytes(LINK_LENGTH);
+    let last = one_of(random, &[0, 1, 5, u32::MAX - 1, u32::MAX]);
+    link[..4].copy_from_slice(&last.to_le_bytes());
+    if random.below(2) == 0 {
+        let kept = record(random, variant, last);
+        link[8..].copy_from_slice(&kept);
+    }
+    if random.below(4) == 0 {
+        let lane = 1 + model::LANE_LENGTH * random.below(64) as usize;
+        match random.below(3) {
+            0 => bench[lane] = one_of(random, &[2, 3, 128, 255]),
+            1 => bench[lane + 1] = 255,
+            _ => bench[lane + 19] = 0xff,
+        }
+    }
+    let (bench_length, link_length) = (length(random, BENCH_LENGTH), length(random, LINK_LENGTH));
+    bench.resize(bench_length, 0);
+    link.resize(link_length, 0);
+    (bench, link)
+}
+
+/// Single calls on whatever a driver hands in.
+#[test]
+fn handed_in() {
+    let (mut random, calls) = start("handed_in", 20_000);
+    let mut seen = [0; 12];
+    for _ in 0..calls {
+        let (bench, link) = memory(&mut random);
+        let (mut ours, mut theirs) = ((bench.clone(), link.clone()), (bench, link));
+        let (got, expected, context) = match random.below(8) {
+            0 => {
+                let variant = variant(&mut random);
+                let got = raw::open(variant, &mut ours.0, &mut ours.1);
+                let expected = model::open(variant, &mut theirs.0, &mut theirs.1);
+                ((got, vec![]), (expected, vec![]), format!("open {variant}"))
+            }
+            1 | 2 => {
+                let lane = match random.below(4) {
+                    0 => one_of(&mut random, &[64, 255, 256, 1 << 32, u64::MAX]),
+                    _ => random.below(64),
+                };
+                let answer = vec![7; length(&mut random, 2)];
+                let (mut first, mut second) = (answer.clone(), answer);
+                let got = raw::read(&ours.0, lane, &mut first);
+                let expected = model::read(&theirs.0, lane, &mut second);
+                ((got, first), (expected, second), format!("read {lane}"))
+            }
+            _ => {
+                let variant = ours.0.first().copied().unwrap_or(1);
+                let kept = |from| ours.1.get(from..).unwrap_or(&[]).to_vec();
+                let last = kept(0)
+                    .get(..4)
+                    .map_or(0, |bytes| u32::from_le_bytes(bytes.try_into().unwrap()));
+                let sent = arrival(&mut random, variant, last, &kept(8));
+                let answer = vec![7; length(&mut random, 3)];
+                let (mut first, mut second) = (answer.clone(), answer);
+                let got = raw::arrive(&mut ours.0, &mut ours.1, &sent, &mut first);
+                let expected = model::arrive(&mut theirs.0, &mut theirs.1, &sent, &mut second);
+                let wide = |words: Vec<u32>| words.into_iter().map(u64::from).collect();
+                (
+                    (got, wide(first)),
+                    (expected, wide(second)),
+                    format!("arrive {sent:02x?}"),
+                )
+            }
+        };
+        seen[expected.0 as usize] += 1;
+        assert_eq!(got, expected, "{context} on {:02x?}", theirs);
+        assert!(
+            ours == theirs,
+            "{context}: bench or link differ\n{ours:02x?}\n{theirs:02x?}"
+        );
+    }
+    println!("handed_in: statuses 0 to 11: {seen:?}");
+    assert!(
+        calls < 10_000 || seen.iter().all(|count| *count > 0),
+        "{seen:?}"
+    );
+}
+
+fn model_answer(bench: &mut katan_model::Bench, call: &Call) -> Answer {
+    let refused = |check| Answer::Refused(Refusal::from_number(check).unwrap());
+    match call {
+        Call::Arrive(sent) => match bench.arrive(sent) {
+            katan_model::Reply::Done { number, total } => {
+                Answer::Reply(Reply::Done { number, total })
+            }
+            katan_model::Reply::Again { number, total } => {
+                Answer::Reply(Reply::Again { number, total })
+            }
+            katan_model::Reply::Refused(check) => refused(check),
+        },
+        Call::Read(lane) => match bench.read(*lane as u64) {
+            katan_model::Reading::At {
+                position,
+                registers,
+            } => Answer::Reading(Reading {
+                position,
+                registers,
+            }),
+            katan_model::Reading::Refused(check) => refused(check),
+        },
+    }
+}
+
+fn call_answer(bench: &mut katan_bench::Bench, call: &Call) -> Answer {
+    match call {
+        Call::Arrive(sent) => bench
+            .arrive(sent)
+            .map_or_else(Answer::Refused, Answer::Reply),
+        Call::Read(lane) => bench
+            .read(*lane as u64)
+            .map_or_else(Answer::Refused, Answer::Reading),
+    }
+}
+
+/// What goes wrong with a list, if anything does: call by call with the bench handed back and forth, and
+/// as one replay.
+fn fault_of(variant: u8, calls: &[Call]) -> Option<String> {
+    let mut reference = katan_model::Bench::new(variant).unwrap();
+    let mut bench = katan_bench::Bench::open(variant).unwrap();
+    let expected: Vec<Answer> = calls
+        .iter()
+        .map(|call| model_answer(&mut reference, call))
+        .collect();
+    for (i, call) in calls.iter().enumerate() {
+        let got = call_answer(&mut bench, call);
+        if got != expected[i] {
+            return Some(format!("call {i} answered {got:?}, not {:?}", expected[i]));
+        }
+    }
+    for lane in 0..records::LANES as u32 {
+        let expected = model_answer(&mut reference, &Call::Read(lane));
+        if call_answer(&mut bench, &Call::Read(lane)) != expected {
+            return Some(format!("lane {lane} is not left as {expected:?}"));
+        }
+    }
+    let (answers, left) = match replay(variant, calls) {
+        Ok(replayed) => replayed,
+        Err(refusal) => return Some(format!("the replay is {refusal}")),
+    };
+    if answers != expected {
+        return Some(format!("the replay answered {answers:?}, not {expected:?}"));
+    }
+    let left = katan_bench::Bench::from_bytes(left, [0; LINK_LENGTH]);
+    (0..records::LANES as u64)
+        .find(|lane| left.read(*lane) != bench.read(*lane))
+        .map(|lane| format!("the replay leaves lane {lane} otherwise"))
+}
+
+/// The shortest list found, by leaving out calls, that still goes wrong.
+fn shrunk(variant: u8, mut calls: Vec<Call>) -> Vec<Call> {
+    let mut part = calls.len().div_ceil(2);
+    while part > 0 {
+        let mut from = 0;
+        while from < calls.len() {
+            let mut fewer = calls.clone();
+            fewer.drain(from..(from + part).min(calls.len()));
+            if fault_of(variant, &fewer).is_some() {
+                calls = fewer;
+            } else {
+                from += part;
+            }
+        }
+        part /= 2;
+    }
+    calls
+}
+
+fn list(random: &mut Random, variant: u8) -> Vec<Call> {
+    let mut reference = katan_model::Bench::new(variant).unwrap();
+    let length = random.below(80);
+    (0..length)
+        .map(|_| {
+            let call = match random.below(4) {
+                0 => Call::Read(match random.below(8) {
+                    0 => one_of(random, &[64, 255, 256, u32::MAX]),
+                    _ => one_of(random, &[0, 1, 2, 31, 32, 62, 63]),
+                }),
+                _ => {
+                    let (last, latest) = (reference.last(), reference.latest().to_vec());
+                    Call::Arrive(arrival(random, variant, last, &latest))
+                }
+            };
+            model_answer(&mut reference, &call);
+            call
+        })
+        .collect()
+}
+
+/// Lists of calls from a fresh bench and link.
+#[test]
+fn lists() {
+    let (mut random, calls) = start("lists", 40_000);
+    let mut made = 0;
+    while made < calls {
+        let variant = 1 + random.below(6) as u8;
+        let list = list(&mut random, variant);
+        made += 2 * list.len() as u64;
+        if fault_of(variant, &list).is_some() {
+            let least = shrunk(variant, list);
+            panic!(
+                "variant {variant}: {:?}\n{least:#04x?}",
+                fault_of(variant, &least)
+            );
+        }
+    }
+    println!("lists: {made} calls, half of them in replays");
+}
+
+/// Lists of calls that are not laid out as they must be, and outputs without the right room.
+#[test]
+fn replays_refused() {
+    let (mut random, calls) = start("replays_refused", 3_000);
+    for _ in 0..calls {
+        let variant = variant(&mut random);
+        let count = random.below(5) as usize;
+        let mut bytes = Vec::new();
+        for _ in 0..count {
+            let size = random.below(50) as u32;
+            bytes.push(1);
+            bytes.extend(size.to_le_bytes());
+            bytes.extend(random.bytes(size as usize));
+        }
+        let room = raw::ANSWER_LENGTH * count;
+        let (spoilt, bad_room) = (random.below(2) == 0, random.below(2) == 0);
+        match random.below(3) {
+            _ if !spoilt => {}
+            0 => bytes.push(1),
+            1 => bytes.extend([0, 0, 0, 0, 0]),
+            _ => bytes.extend([1, 1, 0, 0, 0]),
+        }
+        let out_length = if bad_room { room + 1 } else { room };
+        let (mut bench, mut answers) = (vec![7; BENCH_LENGTH], vec![7; out_length]);
+        let status = raw::replay(variant, &bytes, &mut bench, &mut answers);
+        let expected = match Variant::from_number(variant) {
+            None => 1,
+            Some(_) if spoilt || bad_room => 2,
+            Some(_) => 0,
+        };
+        assert_eq!(
+            status, expected,
+            "variant {variant}, {bytes:02x?}, {out_length} bytes"
+        );
+        if expected != 0 {
+            assert!(bench == [7; BENCH_LENGTH] && answers.iter().all(|byte| *byte == 7));
+        }
+    }
+}

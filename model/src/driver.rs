@@ -1,0 +1,202 @@
+//! The driver's calls: what they return and what they leave in the memory lent to them, from the
+//! layout that the driver's header documents.
+
+use crate::bench::{Bench, Lane, Reading, Reply, LANES, RECORD_LENGTH};
+use crate::calls::{call_decrypt, call_encrypt, call_many, Direction, Refusal};
+use crate::cipher::Variant;
+
+/// A lane: its state, 0 empty and 1 loaded; its position; its key; its registers.
+pub const LANE_LENGTH: usize = 20;
+
+/// A bench: its variant, then its lanes.
+pub const BENCH_LENGTH: usize = 1 + LANE_LENGTH * LANES;
+
+/// A link: the last number, the total, the record.
+pub const LINK_LENGTH: usize = 8 + RECORD_LENGTH;
+
+/// One call of a replayed list: its kind and a number, then the record's bytes.
+pub const HEAD_LENGTH: usize = 5;
+
+/// One answer of a replayed list: its kind, a number of 4 bytes and one of 8.
+pub const ANSWER_LENGTH: usize = 13;
+
+const BAD_VARIANT: u8 = 1;
+const BAD_LENGTH: u8 = 2;
+
+fn number(refusal: Refusal) -> u8 {
+    refusal.0
+}
+
+fn status(answer: Result<(), u8>) -> u8 {
+    answer.map_or_else(|check| check, |()| 0)
+}
+
+fn word(bytes: &[u8]) -> u32 {
+    u32::from_le_bytes(bytes.try_into().unwrap())
+}
+
+/// A lane's bytes; an unknown state is an error.
+fn lane_in(bytes: &[u8]) -> Result<Option<Lane>, u8> {
+    match bytes[0] {
+        0 => Ok(None),
+        1 => Ok(Some(Lane {
+            key: bytes[2..12].try_into().unwrap(),
+            position: bytes[1],
+            registers: u64::from_le_bytes(bytes[12..20].try_into().unwrap()),
+        })),
+        _ => Err(BAD_VARIANT),
+    }
+}
+
+/// The bench in memory of the right length; a link of another length is read as a fresh one.
+fn bench_in(bench: &[u8], link: &[u8]) -> Result<Bench, u8> {
+    let mut lanes = [None; LANES];
+    for (lane, bytes) in lanes.iter_mut().zip(bench[1..].chunks(LANE_LENGTH)) {
+        *lane = lane_in(bytes)?;
+    }
+    let fresh = [0; LINK_LENGTH];
+    let link = if link.len() == LINK_LENGTH {
+        link
+    } else {
+        &fresh
+    };
+    let record = link[8..].try_into().unwrap();
+    Bench::from_lanes(
+        bench[0],
+        &lanes,
+        word(&link[..4]),
+        record,
+        word(&link[4..8]),
+    )
+}
+
+fn put_lane(lane: Option<Lane>, bytes: &mut [u8]) {
+    bytes[0] = lane.is_some() as u8;
+    if let Some(lane) = lane {
+        bytes[1] = lane.position;
+        bytes[2..12].copy_from_slice(&lane.key);
+        bytes[12..20].copy_from_slice(&lane.registers.to_le_bytes());
+    }
+}
+
+fn put(from: &Bench, bench: &mut [u8], link: &mut [u8]) {
+    bench[0] = from.variant().number();
+    for (i, bytes) in bench[1..].chunks_mut(LANE_LENGTH).enumerate() {
+        put_lane(from.lane(i), bytes);
+    }
+    link.fill(0);
+    link[..4].copy_from_slice(&from.last().to_le_bytes());
+    link[4..8].copy_from_slice(&from.total().to_le_bytes());
+    link[8..][..from.latest().len()].copy_from_slice(from.latest());
+}
+
+fn into_word(variant: u8, answer: Result<u64, u8>, out: &mut [u64]) -> u8 {
+    if Variant::from_number(variant).is_none() {
+        return BAD_VARIANT;
+    }
+    if out.len() != 1 {
+        return BAD_LENGTH;
+    }
+    match answer {
+        Ok(block) => {
+            out[0] = block;
+            0
+        }
+        Err(check) => check,
+    }
+}
+
+pub fn encrypt(variant: u8, key: &[u8], block: u64, out: &mut [u64]) -> u8 {
+    into_word(
+        variant,
+        call_encrypt(variant, key, block).map_err(number),
+        out,
+    )
+}
+
+pub fn decrypt(variant: u8, key: &[u8], block: u64, out: &mut [u64]) -> u8 {
+    into_word(
+        variant,
+        call_decrypt(variant, key, block).map_err(number),
+        out,
+    )
+}
+
+pub fn many(direction: Direction, variant: u8, keys: &[u8], blocks: &[u64], out: &mut [u64]) -> u8 {
+    status(call_many(direction, variant, keys, blocks, out).map_err(number))
+}
+
+pub fn cycles(blocks: u32) -> u64 {
+    254 * blocks as u64
+}
+
+/// 12: the clock rate is 0 or over 2,940,000,000.
+pub fn bit_rate(variant: u8, hertz: u64, out: &mut [u64]) -> u8 {
+    let width = Variant::from_number(variant).map_or(0, |variant| variant.width() as u64);
+    let rate = match hertz {
+        1..=2_940_000_000 => Ok(width * hertz / 254),
+        _ => Err(12),
+    };
+    into_word(variant, rate, out)
+}
+
+pub fn open(variant: u8, bench: &mut [u8], link: &mut [u8]) -> u8 {
+    match Bench::new(variant) {
+        Err(check) => check,
+        Ok(_) if bench.len() != BENCH_LENGTH || link.len() != LINK_LENGTH => BAD_LENGTH,
+        Ok(fresh) => {
+            put(&fresh, bench, link);
+            0
+        }
+    }
+}
+
+/// The answer is 0 for 'done' or 1 for 'again', then number and total.
+pub fn arrive(bench: &mut [u8], link: &mut [u8], sent: &[u8], answer: &mut [u32]) -> u8 {
+    if bench.len() != BENCH_LENGTH {
+        return BAD_LENGTH;
+    }
+    let mut model = match bench_in(bench, link) {
+        Ok(model) => model,
+        Err(check) => return check,
+    };
+    if link.len() != LINK_LENGTH || answer.len() != 3 {
+        return BAD_LENGTH;
+    }
+    match model.arrive(sent) {
+        Reply::Done { number, total } => {
+            put(&model, bench, link);
+            answer.copy_from_slice(&[0, number, total]);
+            0
+        }
+        Reply::Again { number, total } => {
+            answer.copy_from_slice(&[1, number, total]);
+            0
+        }
+        Reply::Refused(check) => check,
+    }
+}
+
+/// The answer is the position, then the registers.
+pub fn read(bench: &[u8], lane: u64, answer: &mut [u64]) -> u8 {
+    if bench.len() != BENCH_LENGTH {
+        return BAD_LENGTH;
+    }
+    let model = match bench_in(bench, &[]) {
+        Ok(model) => model,
+        Err(check) => return check,
+    };
+    if answer.len() != 2 {
+        return BAD_LENGTH;
+    }
+    match model.read(lane) {
+        Reading::At {
+            position,
+            registers,
+        } => {
+            answer.copy_from_slice(&[position as u64, registers]);
+            0
+        }
+        Reading::Refused(check) => check,
+    }
+}
