@@ -30,7 +30,8 @@ use Rattle.transpose.proofs.Laws.{transposed-bit, transposed-lt}
 use Rattle.lanes.specs.declared.Direction.{Direction}
 use Rattle.lanes.specs.declared.Direction.the-variants.{Encrypt, Decrypt}
 use Rattle.lanes.specs.Many.{blockKey, oneBlock, results}
-use Rattle.lanes.specs.Words.{Entries, Rows, Lane, spread, RoundWords, IsRow, Carried, Passed}
+use Rattle.katan.specs.Within.{Entries}
+use Rattle.lanes.specs.Words.{Rows, HighRows, HighLanes, Lane, spread, RoundWords, IsRow, Carried, Passed}
 use Rattle.lanes.proofs.KeyWords.{lane-run}
 
 -- ---- the rows of the table
@@ -75,10 +76,14 @@ pub rows-lane : (x : ℕ → ℕ) (o w n : ℕ) (rows : List ℕ) → w ≤ 64 �
     → (j : ℕ) → j < n → (i : ℕ) → i < w → bit (getD (transposed rows) i 0) j ≡ bit (x j) (o + i)
 rows-lane x o w n rows q h j p i l = transposed-bit rows j i (omega arith) ∙ h j p i l
 
+pub high-lanes : (x : ℕ → ℕ) (n : ℕ) (rows words : List ℕ) → HighRows x n rows → words ≡ transposed rows → HighLanes x n words
+high-lanes x n rows words h e j p i q =
+    ap (λ (m : List ℕ). bit (getD m (48 + i) 0) j) e ∙ transposed-bit rows j (48 + i) (omega arith) ∙ h j p i q
+
 -- the lanes of the key words
-pub joined-lane : (x : ℕ → ℕ) (n : ℕ) (low high low′ high′ words : List ℕ) → Rows x 0 64 n low → Rows x 64 16 n high → low′ ≡ transposed low → high′ ≡ transposed high
-    → Entries (λ i. getD low′ i 0) 64 words → ((i : ℕ) → i < 16 → getD words (64 + i) 0 ≡ getD high′ i 0) → (j : ℕ) → j < n → Lane keyLength j words (x j)
-joined-lane x n low high low′ high′ words hl hh el eh f g j p i q = by-place (leb 64 i) refl
+pub joined-lane : (x : ℕ → ℕ) (n : ℕ) (low low′ high words : List ℕ) → Rows x 0 64 n low → low′ ≡ transposed low → HighLanes x n high
+    → Entries (λ i. getD low′ i 0) 64 words → ((i : ℕ) → i < 16 → getD words (64 + i) 0 ≡ getD high (48 + i) 0) → (j : ℕ) → j < n → Lane keyLength j words (x j)
+joined-lane x n low low′ high words hl el hh f g j p i q = by-place (leb 64 i) refl
   where
     by-place : (b : Bool) → leb 64 i ≡ b → bit (getD words i 0) j ≡ bit (x j) i
     by-place false e =
@@ -89,8 +94,7 @@ joined-lane x n low high low′ high′ words hl hh el eh f g j p i q = by-place
         let k = i - 64 in
         let d : i ≡ 64 + k = omega arith in
         let r : k < 16 = omega arith in
-        ap (λ (m : ℕ). bit (getD words m 0) j) d ∙ ap (λ (y : ℕ). bit y j) (g k r ∙ ap (λ (m : List ℕ). getD m k 0) eh)
-        ∙ rows-lane x 64 16 n high (omega arith) hh j p k r ∙ ap (bit (x j)) (sym d)
+        ap (λ (m : ℕ). bit (getD words m 0) j) d ∙ ap (λ (y : ℕ). bit y j) (g k r) ∙ hh j p k r ∙ ap (bit (x j)) (sym d)
 
 -- a number whose bits from m on are 0 is below 2 ^ m
 no-more : (w m x : ℕ) → x < 2 ^ w → ((i : ℕ) → m ≤ i → bit x i ≡ 0) → x < 2 ^ m

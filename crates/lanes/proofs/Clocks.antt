@@ -2,36 +2,18 @@
 -- Assumes nothing.
 use mathlib.Core.Path.{_≡_, sym, ap, ap₂, _∙_}
 use mathlib.Core.List.{List}
-use Prim.Native.Nat.{ℕ, zero, suc, _+_, _-_, _^_, _<_, _≤_}
-use native.Mathlib.Nat.{lt-of-lt-of-le, pow-suc, add-sub-cancel}
+use Prim.Native.Nat.{ℕ, _+_, _-_, _<_, _≤_}
+use native.Mathlib.Nat.{add-sub-cancel}
 use native.Mathlib.Omega.{arith}
-use lib.Bits.{xor-lt}
-use lib.Pow.{pow-mono}
 use lib.ListN.{length, getD, set}
 use lib.Seq.{getD-set-same, getD-set-other}
-use Rattle.katan.specs.Bit.{bit, xor, and}
+use Rattle.katan.specs.Bit.{xor, and}
 use Rattle.katan.specs.Clock.{fa, fb, faRest, fbRest}
 use Rattle.katan.specs.Within.{Sound}
 use Rattle.katan.specs.declared.Row.{Row}
 use Rattle.katan.specs.declared.RoundInput.{RoundInput}
-use Rattle.katan.proofs.Bits.{bit-lt, bit-xor, xor-twice}
-use Rattle.transpose.proofs.Bits.{bits-equal}
 use Rattle.lanes.specs.Buffers.{tapped, Clocked}
-
--- ---- xor of words
-
-small : (n : ℕ) → n < 2 ^ n
-small zero = omega arith
-small (suc n) = omega (arith, pow-suc 2 n, small n)
-
--- the same xor again undoes it
-pub undone : (x y : ℕ) → xor (xor x y) y ≡ x
-undone x y =
-    let w = x + y in
-    let hx : x < 2 ^ w = lt-of-lt-of-le (small x) (pow-mono {i = x} {j = w} (omega arith)) in
-    let hy : y < 2 ^ w = lt-of-lt-of-le (small y) (pow-mono {i = y} {j = w} (omega arith)) in
-    bits-equal w (xor (xor x y) y) x (xor-lt w (xor x y) y (xor-lt w x y hx hy) hy) hx
-    (λ i q. bit-xor (xor x y) y i ∙ ap (λ (z : ℕ). xor z (bit y i)) (bit-xor x y i) ∙ xor-twice (bit x i) (bit y i) (bit-lt x i) (bit-lt y i))
+use Rattle.lanes.proofs.Xors.{undone}
 
 module _ (v : Row) (s : Sound v) where
   -- ---- the formulas see only their register's bits, and the rests only the lower ones

@@ -14,7 +14,8 @@ use Rattle.katan.specs.Checks.{Outcome, value, refused, checked, variantCheck}
 use Rattle.katan.specs.declared.Row.{Row}
 use Rattle.katan.proofs.Variants.{fault-first, fault-later}
 use Rattle.lanes.specs.declared.Direction.{Direction}
-use Rattle.lanes.specs.Many.{laneCount, keyBytes, results, any, lengthsCheck, blocksCheck, manyChecks, manyAnswer, written, manyOf}
+use Rattle.katan.specs.Sizes.{laneCount, keyBytes}
+use Rattle.lanes.specs.Many.{results, any, lengthsCheck, blocksCheck, manyChecks, manyAnswer, written, manyOf}
 
 -- ---- tests on lists
 

@@ -1,6 +1,6 @@
 -- Rounds in the buffers, made forward and backward.
 -- Assumes nothing.
-use mathlib.Core.Path.{_≡_, sym, subst, _∙_}
+use mathlib.Core.Path.{_≡_, refl, sym, subst, _∙_}
 use mathlib.Core.Logic.{⊎-elim}
 use mathlib.Core.List.{List}
 use Prim.Native.Nat.{ℕ, zero, suc, _+_, _*_, _<_, _≤_}
@@ -15,7 +15,7 @@ use Rattle.katan.specs.Within.{Sound}
 use Rattle.katan.specs.declared.Row.{Row}
 use Rattle.katan.specs.declared.RoundInput.{RoundInput}
 use Rattle.lanes.specs.Words.{wordInput}
-use Rattle.lanes.specs.Buffers.{tapped, Room, Clocked, Clocks, History, KeptBelow, KeptFrom}
+use Rattle.lanes.specs.Buffers.{tapped, Room, Clocked, Clocks, History, KeptBelow, KeptFrom, Forward, Backward}
 use Rattle.lanes.proofs.Clocks.{still, made, unmade}
 
 pub room-set : {a b : List ℕ} → Room a b → (i x k y : ℕ) → Room (set a i x) (set b k y)
@@ -42,6 +42,10 @@ pub record Left (v : Row) (u : RoundInput) (first n t : ℕ) (a₀ b₀ a b : Li
   pub room : Room a b
   pub clocks : (c : ℕ) → t ≤ first + c → c < n → Clocked v u (first + c) a b
   pub kept : KeptFrom (first + n) a₀ b₀ a b
+
+-- the same at an equal clock
+pub left-as : {v : Row} {u : RoundInput} {first n : ℕ} {a₀ b₀ a b : List ℕ} (t q : ℕ) → t ≡ q → Left v u first n t a₀ b₀ a b → Left v u first n q a₀ b₀ a b
+left-as {v} {u} {first} {n} {a₀} {b₀} {a} {b} t q e h = subst (λ (x : ℕ). Left v u first n x a₀ b₀ a b) e h
 
 module _ (v : Row) (s : Sound v) (u : RoundInput) (first : ℕ) (a₀ b₀ a b a′ b′ : List ℕ) where
   pub begun-more : (i : ℕ) → first + i < 762 → Begun v u first i a₀ b₀ a b
@@ -115,7 +119,7 @@ module _ (v : Row) (s : Sound v) (irs keys a₀ b₀ a b a′ b′ : List ℕ) (
 
   -- forward
   module _ (k : KeptBelow v f a b a′ b′) where
-    pub history-more : History v irs keys 0 r a b → History v irs keys 0 (r + 1) a′ b′
+    history-more : History v irs keys 0 r a b → History v irs keys 0 (r + 1) a′ b′
     history-more h q c z l m =
         let l′ : q ≤ r = omega arith in
         ⊎-elim
@@ -126,16 +130,19 @@ module _ (v : Row) (s : Sound v) (irs keys a₀ b₀ a b a′ b′ : List ℕ) (
         (λ i x y. k .below1 i (omega arith)) (λ i x y. k .below2 i (omega arith)) (h q c z p m))
         (eq-or-lt-of-le l′)
 
-    pub kept-more : KeptBelow v 0 a₀ b₀ a b → KeptBelow v 0 a₀ b₀ a′ b′
+    kept-more : KeptBelow v 0 a₀ b₀ a b → KeptBelow v 0 a₀ b₀ a′ b′
     kept-more h =
         record {
           below1 = λ i q. k .below1 i (omega arith) ∙ h .below1 i q;
           below2 = λ i q. k .below2 i (omega arith) ∙ h .below2 i q;
         }
 
+    pub forward-more : Room a′ b′ → Forward v irs keys r a₀ b₀ a b → Forward v irs keys (r + 1) a₀ b₀ a′ b′
+    forward-more m h = record { room = m; made = history-more (h .made); kept = kept-more (h .kept) }
+
   -- backward
   module _ (k : KeptFrom (f + n) a b a′ b′) where
-    pub history-earlier : (p m : ℕ) → p ≡ r + 1 → History v irs keys p m a b → History v irs keys r m a′ b′
+    history-earlier : (p m : ℕ) → p ≡ r + 1 → History v irs keys p m a b → History v irs keys r m a′ b′
     history-earlier p m d h q c z l w =
         ⊎-elim
         (λ e. round-clock q e c w)
@@ -145,7 +152,7 @@ module _ (v : Row) (s : Sound v) (irs keys a₀ b₀ a b a′ b′ : List ℕ) (
         (λ i x y. k .from1 i (omega arith)) (λ i x y. k .from2 i (omega arith)) (h q c (omega arith) l w))
         (eq-or-lt-of-le z)
 
-    pub kept-earlier : (m : ℕ) → r < m → KeptFrom (v .clocks * m) a₀ b₀ a b → KeptFrom (v .clocks * m) a₀ b₀ a′ b′
+    kept-earlier : (m : ℕ) → r < m → KeptFrom (v .clocks * m) a₀ b₀ a b → KeptFrom (v .clocks * m) a₀ b₀ a′ b′
     kept-earlier m l h =
         let g = mul-le-mul-left (v .clocks) l in
         record {
@@ -153,11 +160,23 @@ module _ (v : Row) (s : Sound v) (irs keys a₀ b₀ a b a′ b′ : List ℕ) (
           from2 = λ i q. k .from2 i (omega arith) ∙ h .from2 i q;
         }
 
--- ---- equal rows have the same runs
+    pub backward-more : Room a′ b′ → r < rounds → Backward v irs keys (r + 1) a₀ b₀ a b → Backward v irs keys r a₀ b₀ a′ b′
+    backward-more m l h = record { room = m; made = history-earlier (r + 1) rounds refl (h .made); kept = kept-earlier rounds l (h .kept) }
 
-module _ (v w : Row) (e : v ≡ w) (irs keys a₀ b₀ a b : List ℕ) where
-  pub run-as : Room a b × (History v irs keys 0 rounds a b × KeptBelow v 0 a₀ b₀ a b) → Room a b × (History w irs keys 0 rounds a b × KeptBelow w 0 a₀ b₀ a b)
-  run-as h = subst (λ (r : Row). Room a b × (History r irs keys 0 rounds a b × KeptBelow r 0 a₀ b₀ a b)) e h
+-- ---- all rounds
 
-  pub unrun-as : Room a b × (History v irs keys 0 rounds a b × KeptFrom (v .clocks * rounds) a₀ b₀ a b) → Room a b × (History w irs keys 0 rounds a b × KeptFrom (w .clocks * rounds) a₀ b₀ a b)
-  unrun-as h = subst (λ (r : Row). Room a b × (History r irs keys 0 rounds a b × KeptFrom (r .clocks * rounds) a₀ b₀ a b)) e h
+module _ (v : Row) (irs keys a b : List ℕ) (m : Room a b) where
+  -- no round is made yet
+  pub forward-none : Forward v irs keys 0 a b a b
+  forward-none = record { room = m; made = λ q c z l. absurd (omega arith); kept = record { below1 = λ i q. refl; below2 = λ i q. refl } }
+
+  pub backward-none : Backward v irs keys rounds a b a b
+  backward-none = record { room = m; made = λ q c z l. absurd (omega arith); kept = record { from1 = λ i q. refl; from2 = λ i q. refl } }
+
+-- the same for an equal row and position
+module _ (v w : Row) (e : v ≡ w) (r q : ℕ) (d : r ≡ q) {irs keys a₀ b₀ a b : List ℕ} where
+  pub forward-as : Forward v irs keys r a₀ b₀ a b → Forward w irs keys q a₀ b₀ a b
+  forward-as h = subst (λ (x : Row). Forward x irs keys q a₀ b₀ a b) e (subst (λ (y : ℕ). Forward v irs keys y a₀ b₀ a b) d h)
+
+  pub backward-as : Backward v irs keys r a₀ b₀ a b → Backward w irs keys q a₀ b₀ a b
+  backward-as h = subst (λ (x : Row). Backward x irs keys q a₀ b₀ a b) e (subst (λ (y : ℕ). Backward v irs keys y a₀ b₀ a b) d h)

@@ -25,7 +25,8 @@ use Rattle.transpose.proofs.Bits.{bit-shr}
 use Rattle.katan.proofs.Keys.{k-low, k-rule}
 use Rattle.katan.proofs.Tables.{each, entry, length-tabulate, ka-number, kb-number}
 use Rattle.lanes.specs.Many.{blockKey}
-use Rattle.lanes.specs.Words.{Entries, Lane, wordInput, laneInput, spread, kWord, RoundWords}
+use Rattle.katan.specs.Within.{Entries}
+use Rattle.lanes.specs.Words.{Lane, wordInput, laneInput, spread, kWord, RoundWords}
 
 -- ---- a map from one kind of bits to another that keeps xor keeps the key rule
 
@@ -54,11 +55,11 @@ module _ {A B : Type 0} (x₁ : A → A → A) (z₁ : A) (x₂ : B → B → B)
       map-pick (isKatan v) (kList x₁ z₁ key (2 * rounds - keyLength)) key
       ∙ ap (λ (l : List B). pick (isKatan v) l (map h key)) (k-map key (2 * rounds - keyLength))
 
-  ka-map : (v : ℕ) (key : List A) (t r : ℕ) → h (kaOf x₁ z₁ v (roundKeys x₁ z₁ v key) t r) ≡ kaOf x₂ z₂ v (roundKeys x₂ z₂ v (map h key)) t r
-  ka-map v key t r = map-at (roundKeys x₁ z₁ v key) (pick (isKatan v) (2 * r) (kaNumber t)) ∙ ap (λ (l : List B). kaOf x₂ z₂ v l t r) (round-keys-map v key)
+  ka-map : (v : ℕ) (key : List A) (t r : ℕ) → h (kaOf z₁ v (roundKeys x₁ z₁ v key) t r) ≡ kaOf z₂ v (roundKeys x₂ z₂ v (map h key)) t r
+  ka-map v key t r = map-at (roundKeys x₁ z₁ v key) (pick (isKatan v) (2 * r) (kaNumber t)) ∙ ap (λ (l : List B). kaOf z₂ v l t r) (round-keys-map v key)
 
-  kb-map : (v : ℕ) (key : List A) (t r : ℕ) → h (kbOf x₁ z₁ v (roundKeys x₁ z₁ v key) t r) ≡ kbOf x₂ z₂ v (roundKeys x₂ z₂ v (map h key)) t r
-  kb-map v key t r = map-at (roundKeys x₁ z₁ v key) (pick (isKatan v) (2 * r + 1) (kbNumber t)) ∙ ap (λ (l : List B). kbOf x₂ z₂ v l t r) (round-keys-map v key)
+  kb-map : (v : ℕ) (key : List A) (t r : ℕ) → h (kbOf z₁ v (roundKeys x₁ z₁ v key) t r) ≡ kbOf z₂ v (roundKeys x₂ z₂ v (map h key)) t r
+  kb-map v key t r = map-at (roundKeys x₁ z₁ v key) (pick (isKatan v) (2 * r + 1) (kbNumber t)) ∙ ap (λ (l : List B). kbOf z₂ v l t r) (round-keys-map v key)
 
 -- ---- k(i) at words
 
@@ -127,10 +128,10 @@ module _ (v j key : ℕ) (words keys irs : List ℕ) (len : length words ≡ key
       ∙ ap₂ (input (irOf (counter r)))
       (ap (λ (x : ℕ). bit x j) (k .ka-word r l)
       ∙ ka-map xor 0 xor 0 (λ x. bit x j) (λ a b. bit-xor a b j) (bit-zero j) v words (counter r) r
-      ∙ ap (λ (l : List ℕ). kaOf xor 0 v (roundKeys xor 0 v l) (counter r) r) key-lane)
+      ∙ ap (λ (l : List ℕ). kaOf 0 v (roundKeys xor 0 v l) (counter r) r) key-lane)
       (ap (λ (x : ℕ). bit x j) (k .kb-word r l)
       ∙ kb-map xor 0 xor 0 (λ x. bit x j) (λ a b. bit-xor a b j) (bit-zero j) v words (counter r) r
-      ∙ ap (λ (l : List ℕ). kbOf xor 0 v (roundKeys xor 0 v l) (counter r) r) key-lane)
+      ∙ ap (λ (l : List ℕ). kbOf 0 v (roundKeys xor 0 v l) (counter r) r) key-lane)
 
   -- and so a run of rounds
   pub lane-run : (row : Row) (s : Registers) (c : ℕ) → c ≤ rounds → run row (λ r. laneInput j (wordInput irs keys r)) 0 c s ≡ run row (inputOf v key) 0 c s
@@ -147,6 +148,15 @@ module _ (key : Key) (x : ℕ) (e : keyNumber key ≡ x) (h : key .low < 2 ^ 64)
   pub high-row : (i : ℕ) → i < 16 → bit (key .high) i ≡ bit x (64 + i)
   high-row i q =
       ap (λ (y : ℕ). bit y i) (sym (high (key .high) 64 h)) ∙ bit-shr (keyNumber key) 64 i ∙ ap (λ (y : ℕ). bit y (64 + i)) e
+
+-- ---- 16 bits above a row of 48
+
+module _ (h x : ℕ) (q : x < 2 ^ 48) where
+  pub row-low : (i : ℕ) → i < 48 → bit (h * 2 ^ 48 + x) i ≡ bit x (0 + i)
+  row-low i l = sym (ap (λ (y : ℕ). bit y i) (sym (low h 48 q)) ∙ bit-mod 48 (h * 2 ^ 48 + x) i l) ∙ ap (bit x) (sym (zero-add i))
+
+  pub row-high : (i : ℕ) → bit (h * 2 ^ 48 + x) (48 + i) ≡ bit h i
+  row-high i = sym (bit-shr (h * 2 ^ 48 + x) 48 i) ∙ ap (λ (y : ℕ). bit y i) (high h 48 q)
 
 -- the ten bytes of key i
 pub key-part : (keys : List ℕ) (i : ℕ) → numberIn (take 10 (take (10 * i + 10 - 10 * i) (drop (10 * i) keys))) ≡ blockKey keys i

@@ -5,3 +5,4 @@ pub mod Columns
 pub mod KeyWords
 pub mod Blocks
 pub mod Faults
+pub mod Xors

@@ -1,11 +1,11 @@
 -- A list that is filled entry after entry.
 -- Assumes nothing.
-use mathlib.Core.Path.{_≡_, sym, subst}
+use mathlib.Core.Path.{_≡_, refl, sym, subst}
 use mathlib.Core.List.{List}
-use Prim.Native.Nat.{ℕ, _+_, _<_}
+use Prim.Native.Nat.{ℕ, zero, suc, _+_, _<_}
 use native.Mathlib.Omega.{arith}
 use borrow.Author.Count.{below-more}
-use lib.ListN.{length, getD, set}
+use lib.ListN.{length, getD, set, replicate}
 use lib.Seq.{getD-set-same, getD-set-other}
 
 -- what holds of each entry so far, and of the one that is stored at its own place, holds of each entry then
@@ -19,3 +19,9 @@ module _ (P : ℕ → ℕ → Type 0) (place : ℕ → ℕ) (xs : List ℕ) (i x
 -- entry after entry from 0 on
 pub filled : (P : ℕ → ℕ → Type 0) (xs : List ℕ) (i x : ℕ) → i < length xs → ((j : ℕ) → j < i → P j (getD xs j 0)) → P i x → (j : ℕ) → j < i + 1 → P j (getD (set xs i x) j 0)
 filled P xs i x h f p = stored P (λ j. j) xs i x h (λ j q e. omega arith) f p
+
+-- a list of zeros
+pub zeros : (n i : ℕ) → _≡_ {A = ℕ} (getD (replicate n 0) i 0) 0
+zeros zero i = refl
+zeros (suc n) zero = refl
+zeros (suc n) (suc i) = zeros n i

@@ -6,6 +6,7 @@ use mathlib.Core.Path.{_≡_}
 use mathlib.Core.List.{List}
 use lib.ListN.{getD, length}
 use Rattle.katan.specs.Bit.{xor, and}
+use Rattle.katan.specs.Counter.{rounds}
 use Rattle.katan.specs.Clock.{fa, fb}
 use Rattle.katan.specs.declared.Row.{Row}
 use Rattle.katan.specs.declared.RoundInput.{RoundInput}
@@ -47,3 +48,15 @@ pub record KeptFrom (t : ℕ) (a b a′ b′ : List ℕ) : Type 0 where
 pub record Placed (v : Row) (t : ℕ) (words a b : List ℕ) : Type 0 where
   pub placed2 : (i : ℕ) → i < v .len2 → getD b (t + v .y1 - i) 0 ≡ getD words i 0
   pub placed1 : (i : ℕ) → i < v .len1 → getD a (t + v .x1 - i) 0 ≡ getD words (v .len2 + i) 0
+
+-- the rounds before r are made, and what a₀ and b₀ held before them is kept
+pub record Forward (v : Row) (irs keys : List ℕ) (r : ℕ) (a₀ b₀ a b : List ℕ) : Type 0 where
+  pub room : Room a b
+  pub made : History v irs keys 0 r a b
+  pub kept : KeptBelow v 0 a₀ b₀ a b
+
+-- the rounds from r on are made, and what a₀ and b₀ held after them is kept
+pub record Backward (v : Row) (irs keys : List ℕ) (r : ℕ) (a₀ b₀ a b : List ℕ) : Type 0 where
+  pub room : Room a b
+  pub made : History v irs keys r rounds a b
+  pub kept : KeptFrom (v .clocks * rounds) a₀ b₀ a b

@@ -6,20 +6,13 @@ use mathlib.Core.List.{List, [], _∷_}
 use lib.Dec.{ltb, eqb}
 use lib.ListN.{length, getD, take, drop}
 use Rattle.katan.specs.Bit.{pick, tabulate, numberIn}
+use Rattle.katan.specs.Sizes.{laneCount, keyBytes}
 use Rattle.katan.specs.Machine.{encryption, decryption}
 use Rattle.katan.specs.Checks.{numberOf, Outcome, value, refused, Check, checked, variantCheck, blockCheck}
 use Rattle.lanes.specs.declared.Direction.{Direction}
 use Rattle.lanes.specs.declared.Direction.the-variants.{Encrypt, Decrypt}
 use Rattle.lanes.specs.declared.Answer.{Answer}
 use Rattle.lanes.specs.declared.Answer.the-variants.{Done, Refused}
-
--- the most blocks that a call takes
-abbrev pub laneCount : ℕ
-laneCount = 64
-
--- the bytes of a key
-abbrev pub keyBytes : ℕ
-keyBytes = 10
 
 -- block i takes key bytes 10 i to 10 i + 9
 abbrev pub blockKey : List ℕ → ℕ → ℕ

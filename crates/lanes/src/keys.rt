@@ -1,11 +1,14 @@
 // The key words: bit j of key word i is bit i of lane j's key.
 ghost use mathlib.Core.Path.{_≡_};
-ghost use Prim.Native.Nat.{ℕ, _+_, _*_, _<_, _≤_};
+ghost use Prim.Native.Nat.{ℕ, _+_, _*_, _^_, _<_, _≤_};
 ghost use lib.ListN.{getD, length};
 ghost use Rattle.katan.specs.Counter.{rounds};
 ghost use Rattle.katan.specs.Key.{keyLength, keyBitNumber, keyNumber};
-ghost use Rattle.lanes.specs.Many.{keyBytes, blockKey};
-ghost use Rattle.lanes.specs.Words.{Entries, Rows, Lane, kWord, RoundWords};
+ghost use Rattle.katan.specs.Sizes.{keyBytes};
+ghost use Rattle.lanes.specs.Many.{blockKey};
+ghost use Rattle.katan.specs.Within.{Entries};
+ghost use Rattle.lanes.specs.Words.{Rows, HighRows, HighLanes, Lane, Keeps, kWord, RoundWords};
+use katan::KEY_BYTES;
 use katan::Key;
 
 // The key of block i.
@@ -13,8 +16,8 @@ fn block_key(keys: &[u8], i: usize) -> Key
     requires { ⌜ keyBytes * i + keyBytes ≤ length (now keys) ⌝ }
     ensures { λ r. ⌜ keyNumber r ≡ blockKey (now (keys .entry)) i ⌝ }
 {
-    let at = 10 * i;
-    let end = at + 10;
+    let at = KEY_BYTES * i;
+    let end = at + KEY_BYTES;
     katan::key_of(&keys[at..end])
 }
 
@@ -36,16 +39,17 @@ fn wide(x: u16) -> u64
     x as u64
 }
 
-// Bits 64 to 79 of each key.
-fn high_rows(keys: &[u8], n: usize) -> [u64; 64]
-    requires { ⌜ (n ≤ 64) × (keyBytes * n ≤ length (now keys)) ⌝ }
-    ensures { λ r. ⌜ Rows (blockKey (now (keys .entry))) 64 16 n r ⌝ }
+// The rows with bits 64 to 79 of each key in their bits 48 to 63: so those need no matrix of their own beside blocks of up to 48 bits.
+pub fn with_high(rows: [u64; 64], keys: &[u8], n: usize) -> [u64; 64]
+    requires { ⌜ (n ≤ 64) × (keyBytes * n ≤ length (now keys)) × ((j : ℕ) → j < n → getD rows j 0 < 2 ^ 48) ⌝ }
+    ensures { λ r. ⌜ HighRows (blockKey (now (keys .entry))) n r ⌝ }
+    ensures { λ r. ⌜ Rows (λ j. getD rows j 0) 0 48 n r ⌝ }
 {
-    let mut rows = [0u64; 64];
+    let mut w = rows;
     for i in 0..n {
-        rows[i] = wide(block_key(keys, i).high);
+        w[i] = wide(block_key(keys, i).high) * 281474976710656 + w[i];
     }
-    rows
+    w
 }
 
 fn low_words(low: [u64; 64]) -> [u64; 80]
@@ -58,23 +62,23 @@ fn low_words(low: [u64; 64]) -> [u64; 80]
     words
 }
 
-fn joined(low: [u64; 64], high: [u64; 64]) -> [u64; 80]
+fn joined(low: [u64; 64], high: &[u64; 64]) -> [u64; 80]
     ensures { λ r. ⌜ Entries (λ i. getD low i 0) 64 r ⌝ }
-    ensures { λ r. ⌜ ((i : ℕ) → i < 16 → getD r (64 + i) 0 ≡ getD high i 0) ⌝ }
+    ensures { λ r. ⌜ ((i : ℕ) → i < 16 → getD r (64 + i) 0 ≡ getD (now (high .entry)) (48 + i) 0) ⌝ }
 {
     let mut words = low_words(low);
     for i in 0..16 {
-        words[64 + i] = high[i];
+        words[64 + i] = high[48 + i];
     }
     words
 }
 
-pub fn key_words(keys: &[u8], n: usize) -> [u64; 80]
-    requires { ⌜ (n ≤ 64) × (keyBytes * n ≤ length (now keys)) ⌝ }
+// `high` has bits 64 to 79 of the keys in its words 48 to 63.
+pub fn key_words(keys: &[u8], n: usize, high: &[u64; 64]) -> [u64; 80]
+    requires { ⌜ (n ≤ 64) × (keyBytes * n ≤ length (now keys)) × HighLanes (blockKey (now keys)) n (now high) ⌝ }
     ensures { λ r. ⌜ ((j : ℕ) → j < n → Lane keyLength j r (blockKey (now (keys .entry)) j)) ⌝ }
 {
     let low = transpose::transpose(low_rows(keys, n));
-    let high = transpose::transpose(high_rows(keys, n));
     joined(low, high)
 }
 
@@ -88,14 +92,25 @@ fn first_words(key: [u64; 80]) -> [u64; 508]
     words
 }
 
+// Words up to `to`, each by the rule of k(i) with its distances s times as long. Where a stream keeps the rule, it keeps the rule with
+// doubled distances too: those are even, so that two words are made at once.
+fn extend(words: &mut [u64; 508], s: usize, to: usize)
+    requires { ⌜ (1 ≤ s) × (s ≤ 2) × (80 * s ≤ to) × (to ≤ 508) × (length (now words) ≡ 508) ⌝ }
+    ensures { λ r. ⌜ length (now (words .exit)) ≡ 508 ⌝ }
+    ensures { λ r. ⌜ ((f : ℕ → ℕ) → Entries f (80 * s) (now (words .entry)) → Keeps s (80 * s) to f → Entries f to (now (words .exit))) ⌝ }
+{
+    for i in 80 * s..to {
+        words[i] = words[i - 80 * s] ^ words[i - 61 * s] ^ words[i - 50 * s] ^ words[i - 13 * s];
+    }
+}
+
 // KATAN: the rule of k(i), at words.
 fn katan_words(key: [u64; 80]) -> [u64; 508]
     ensures { λ r. ⌜ Entries (kWord key) (2 * rounds) r ⌝ }
 {
     let mut words = first_words(key);
-    for i in 80..508 {
-        words[i] = words[i - 80] ^ words[i - 61] ^ words[i - 50] ^ words[i - 13];
-    }
+    extend(&mut words, 1, 160);
+    extend(&mut words, 2, 508);
     words
 }
 

@@ -1,27 +1,28 @@
 // Many blocks at once, each with its own key. The work is bit-sliced: bit j of each word belongs to lane j, which holds block j.
 ghost use mathlib.Core.Path.{_≡_};
 ghost use Prim.Native.Nat.{ℕ, _+_, _*_, _^_, _<_, _≤_};
-ghost use mathlib.Core.Bool.{true};
 ghost use lib.Dec.{leb};
 ghost use lib.ListN.{getD, length, take};
-ghost use Rattle.katan.specs.Bit.{pick};
 ghost use Rattle.katan.specs.Variant.{rowOf};
-ghost use Rattle.lanes.specs.Many.{laneCount, keyBytes, blockKey, oneBlock, any, outcome, manyAnswer, manyOf};
-ghost use Rattle.lanes.specs.Words.{Entries, IsRow, Passed};
+ghost use Rattle.katan.specs.Sizes.{laneCount, keyBytes};
+ghost use Rattle.lanes.specs.Many.{blockKey, oneBlock, any, outcome, manyAnswer, manyOf};
+ghost use Rattle.katan.specs.Within.{Entries};
+ghost use Rattle.lanes.specs.Words.{HighLanes, Lane, IsRow, Passed};
 use crate::keys::key_words;
 use crate::keys::round_words;
+use crate::keys::with_high;
 use crate::rounds::decrypted;
 use crate::rounds::encrypted;
 use crate::rounds::ir_words;
+use katan::KEY_BYTES;
+use katan::LANES;
 use katan::Refusal;
 use katan::Row;
 use katan::RowAnswer;
 
+mod constants;
 mod keys;
 mod rounds;
-
-// The most blocks that a call takes.
-pub const LANES: usize = 64;
 
 pub enum Direction {
     Encrypt,
@@ -34,21 +35,15 @@ pub enum Answer {
     Refused(Refusal),
 }
 
-fn or_wide(found: bool, n: usize, x: u64) -> bool
-    ensures { λ r. ⌜ r ≡ pick found true (leb (2 ^ n) x) ⌝ }
-{
-    if found { true } else { katan::too_wide(n, x) }
-}
-
-// Check 7: some block is 2^n or more.
+// Check 7: some block is 2^n or more. All of them in one word are, if one is.
 fn any_wide(n: usize, blocks: &[u64]) -> bool
     ensures { λ r. ⌜ r ≡ any (leb (2 ^ n)) (now (blocks .entry)) ⌝ }
 {
-    let mut found = false;
+    let mut all = 0u64;
     for i in 0..blocks.len() {
-        found = or_wide(found, n, blocks[i]);
+        all = all | blocks[i];
     }
-    found
+    katan::too_wide(n, all)
 }
 
 // The blocks as the rows of a matrix. Where they are fewer than the lanes, the other lanes hold zeros.
@@ -80,16 +75,39 @@ fn passed(
     }
 }
 
+// All rounds, from the words of the blocks to the results as rows.
+fn finished(
+    direction: Direction,
+    variant: u8,
+    row: Row,
+    keys: &[u8],
+    n: usize,
+    words: &[u64; 64],
+    high: &[u64; 64],
+) -> [u64; LANES]
+    requires { ⌜ (row ≡ rowOf variant) × (n ≤ laneCount) × (keyBytes * n ≤ length (now keys)) × HighLanes (blockKey (now keys)) n (now high) ⌝ }
+    ensures { λ r. ⌜ ((j x : ℕ) → j < n → x < 2 ^ (row .n) → Lane (row .n) j (now (words .entry)) x → getD r j 0 ≡ oneBlock direction variant (blockKey (now (keys .entry)) j) x) ⌝ }
+{
+    let round_keys = round_words(variant, key_words(keys, n, high));
+    let irs = ir_words();
+    transpose::transpose(passed(direction, row, &irs, &round_keys, words))
+}
+
 // The results, as rows.
 fn worked(direction: Direction, variant: u8, row: Row, keys: &[u8], blocks: &[u64]) -> [u64; LANES]
     requires { ⌜ (row ≡ rowOf variant) × (length (now blocks) ≤ laneCount) × (keyBytes * length (now blocks) ≤ length (now keys)) ⌝ }
     requires { ⌜ ((i : ℕ) → i < length (now blocks) → getD (now blocks) i 0 < 2 ^ (row .n)) ⌝ }
     ensures { λ r. ⌜ Entries (λ i. oneBlock direction variant (blockKey (now (keys .entry)) i) (getD (now (blocks .entry)) i 0)) (length (now (blocks .entry))) r ⌝ }
 {
-    let round_keys = round_words(variant, key_words(keys, blocks.len()));
-    let irs = ir_words();
-    let words = transpose::transpose(rows_of(blocks));
-    transpose::transpose(passed(direction, row, &irs, &round_keys, &words))
+    let n = blocks.len();
+    if row.n <= 48 {
+        let words = transpose::transpose(with_high(rows_of(blocks), keys, n));
+        finished(direction, variant, row, keys, n, &words, &words)
+    } else {
+        let words = transpose::transpose(rows_of(blocks));
+        let high = transpose::transpose(with_high([0u64; 64], keys, n));
+        finished(direction, variant, row, keys, n, &words, &high)
+    }
 }
 
 fn write(rows: [u64; LANES], out: &mut [u64])
@@ -121,7 +139,7 @@ pub fn many(
             if LANES < n {
                 return Answer::Refused(Refusal::BadLength);
             }
-            if keys.len() != 10 * n {
+            if keys.len() != KEY_BYTES * n {
                 return Answer::Refused(Refusal::BadLength);
             }
             if out.len() != n {

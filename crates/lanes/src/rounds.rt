@@ -6,9 +6,12 @@ ghost use lib.ListN.{getD, length, set};
 ghost use Rattle.katan.specs.Bit.{xor, and};
 ghost use Rattle.katan.specs.Counter.{counter, irOf, rounds};
 ghost use Rattle.katan.specs.Clock.{fa, fb, faRest, fbRest};
+ghost use Rattle.katan.specs.Variant.{row32, row48, row64};
 ghost use Rattle.katan.specs.Within.{Sound};
-ghost use Rattle.lanes.specs.Words.{Entries, spread, wordInput, IsRow, Carried};
-ghost use Rattle.lanes.specs.Buffers.{tapped, Room, Clocked, Clocks, History, KeptBelow, KeptFrom, Placed};
+ghost use mathlib.Core.List.{List};
+ghost use Rattle.katan.specs.Within.{Entries};
+ghost use Rattle.lanes.specs.Words.{spread, wordInput, IsRow, Carried};
+ghost use Rattle.lanes.specs.Buffers.{tapped, Room, Clocks, KeptBelow, KeptFrom, Forward, Backward, Placed};
 use katan::ClockNumber;
 use katan::RoundInput;
 use katan::RoundPosition;
@@ -17,22 +20,10 @@ use katan::Row;
 // Room for the 762 clocks of the longest run and for a register of fewer than 64 bits.
 const BUFFER: usize = 826;
 
-fn wide(x: u8) -> u64
-    ensures { λ r. ⌜ r ≡ x ⌝ }
-{
-    x as u64
-}
-
-// IR of each round, the same in all lanes.
 pub fn ir_words() -> [u64; 254]
     ensures { λ r. ⌜ Entries (λ i. spread (irOf (counter i))) rounds r ⌝ }
 {
-    let counters = katan::counters();
-    let mut words = [0u64; 254];
-    for r in 0..254 {
-        words[r] = (wide(counters[r]) >> 7) % 2 * 18446744073709551615;
-    }
-    words
+    crate::constants::IR_WORDS
 }
 
 // Bit i of the register whose newest word stands at p.
@@ -106,7 +97,7 @@ fn round_at(
     }
 }
 
-// The last clock first. The test stands at the end, so that the clocks are not unrolled: unrolled, they run slower.
+// The last clock first.
 fn unround_at(
     v: Row,
     n: usize,
@@ -115,19 +106,14 @@ fn unround_at(
     from: ClockNumber,
     u: RoundInput,
 )
-    requires { ⌜ Sound v × Room (now a) (now b) × (1 ≤ n) × (from .0 + n ≤ 762) ⌝ }
+    requires { ⌜ Sound v × Room (now a) (now b) × (from .0 + n ≤ 762) ⌝ }
     ensures { λ r. ⌜ Room (now (a .exit)) (now (b .exit)) ⌝ }
     ensures { λ r. ⌜ Clocks v u (from .0) 0 n (now (a .exit)) (now (b .exit)) ⌝ }
     ensures { λ r. ⌜ KeptFrom (from .0 + n) (now (a .entry)) (now (b .entry)) (now (a .exit)) (now (b .exit)) ⌝ }
 {
     let first = from.0;
-    let mut t = first + n;
-    loop {
-        t -= 1;
-        unclock_at(v, a, b, t, u);
-        if t <= first {
-            break;
-        }
+    for i in 0..n {
+        unclock_at(v, a, b, first + n - i - 1, u);
     }
 }
 
@@ -143,74 +129,150 @@ fn input_at(irs: &[u64; 254], keys: &[u64; 508], r: usize) -> RoundInput
     }
 }
 
-fn run_at(
+// Round r.
+fn round_in(
     v: Row,
     n: usize,
     a: &mut [u64; BUFFER],
     b: &mut [u64; BUFFER],
     irs: &[u64; 254],
     keys: &[u64; 508],
+    r: u8,
 )
-    requires { ⌜ Sound v × (n ≡ v .clocks) × Room (now a) (now b) ⌝ }
-    ensures { λ r. ⌜ Room (now (a .exit)) (now (b .exit)) ⌝ }
-    ensures { λ r. ⌜ History v (now (irs .entry)) (now (keys .entry)) 0 rounds (now (a .exit)) (now (b .exit)) ⌝ }
-    ensures { λ r. ⌜ KeptBelow v 0 (now (a .entry)) (now (b .entry)) (now (a .exit)) (now (b .exit)) ⌝ }
+    requires { ⌜ Sound v × (n ≡ v .clocks) × Room (now a) (now b) × (r < rounds) ⌝ }
+    ensures { λ q. ⌜ Room (now (a .exit)) (now (b .exit)) ⌝ }
+    ensures { λ q. ⌜ ((a₀ b₀ : List ℕ) → Forward v (now (irs .entry)) (now (keys .entry)) r a₀ b₀ (now (a .entry)) (now (b .entry)) → Forward v (now (irs .entry)) (now (keys .entry)) (r + 1) a₀ b₀ (now (a .exit)) (now (b .exit))) ⌝ }
 {
-    for r in 0..katan::ROUNDS {
-        let from = katan::first_clock(v, RoundPosition(r));
-        let u = input_at(irs, keys, r as usize);
-        round_at(v, n, a, b, from, u);
-    }
+    let from = katan::first_clock(v, RoundPosition(r));
+    let u = input_at(irs, keys, r as usize);
+    round_at(v, n, a, b, from, u);
 }
 
-fn unrun_at(
+// Round r.
+fn unround_in(
     v: Row,
     n: usize,
     a: &mut [u64; BUFFER],
     b: &mut [u64; BUFFER],
     irs: &[u64; 254],
     keys: &[u64; 508],
+    r: u8,
 )
-    requires { ⌜ Sound v × (n ≡ v .clocks) × Room (now a) (now b) ⌝ }
-    ensures { λ r. ⌜ Room (now (a .exit)) (now (b .exit)) ⌝ }
-    ensures { λ r. ⌜ History v (now (irs .entry)) (now (keys .entry)) 0 rounds (now (a .exit)) (now (b .exit)) ⌝ }
-    ensures { λ r. ⌜ KeptFrom (v .clocks * rounds) (now (a .entry)) (now (b .entry)) (now (a .exit)) (now (b .exit)) ⌝ }
+    requires { ⌜ Sound v × (n ≡ v .clocks) × Room (now a) (now b) × (r < rounds) ⌝ }
+    ensures { λ q. ⌜ Room (now (a .exit)) (now (b .exit)) ⌝ }
+    ensures { λ q. ⌜ ((a₀ b₀ : List ℕ) → Backward v (now (irs .entry)) (now (keys .entry)) (r + 1) a₀ b₀ (now (a .entry)) (now (b .entry)) → Backward v (now (irs .entry)) (now (keys .entry)) r a₀ b₀ (now (a .exit)) (now (b .exit))) ⌝ }
 {
-    let mut r = katan::ROUNDS;
-    while 0 < r {
-        r -= 1;
-        let from = katan::first_clock(v, RoundPosition(r));
-        let u = input_at(irs, keys, r as usize);
-        unround_at(v, n, a, b, from, u);
+    let from = katan::first_clock(v, RoundPosition(r));
+    let u = input_at(irs, keys, r as usize);
+    unround_at(v, n, a, b, from, u);
+}
+
+// All rounds, a loop for each width: there the row and its clocks are constants, and several rounds a turn let neighbouring clocks share
+// their loads. Each loop is called once, so that it is inlined where the buffers are known to be two.
+fn run_32(a: &mut [u64; BUFFER], b: &mut [u64; BUFFER], irs: &[u64; 254], keys: &[u64; 508])
+    requires { ⌜ Room (now a) (now b) ⌝ }
+    ensures { λ r. ⌜ Forward row32 (now (irs .entry)) (now (keys .entry)) rounds (now (a .entry)) (now (b .entry)) (now (a .exit)) (now (b .exit)) ⌝ }
+{
+    let v = katan::row_32();
+    for h in 0..63u8 {
+        let r = 4 * h;
+        round_in(v, 1, a, b, irs, keys, r);
+        round_in(v, 1, a, b, irs, keys, r + 1);
+        round_in(v, 1, a, b, irs, keys, r + 2);
+        round_in(v, 1, a, b, irs, keys, r + 3);
+    }
+    round_in(v, 1, a, b, irs, keys, 252);
+    round_in(v, 1, a, b, irs, keys, 253);
+}
+
+fn run_48(a: &mut [u64; BUFFER], b: &mut [u64; BUFFER], irs: &[u64; 254], keys: &[u64; 508])
+    requires { ⌜ Room (now a) (now b) ⌝ }
+    ensures { λ r. ⌜ Forward row48 (now (irs .entry)) (now (keys .entry)) rounds (now (a .entry)) (now (b .entry)) (now (a .exit)) (now (b .exit)) ⌝ }
+{
+    let v = katan::row_48();
+    for h in 0..127u8 {
+        let r = 2 * h;
+        round_in(v, 2, a, b, irs, keys, r);
+        round_in(v, 2, a, b, irs, keys, r + 1);
     }
 }
 
-// Each arm has its row and its clocks a round as constants, so that the loop is inlined there and compiled for its taps.
+fn run_64(a: &mut [u64; BUFFER], b: &mut [u64; BUFFER], irs: &[u64; 254], keys: &[u64; 508])
+    requires { ⌜ Room (now a) (now b) ⌝ }
+    ensures { λ r. ⌜ Forward row64 (now (irs .entry)) (now (keys .entry)) rounds (now (a .entry)) (now (b .entry)) (now (a .exit)) (now (b .exit)) ⌝ }
+{
+    let v = katan::row_64();
+    for h in 0..127u8 {
+        let r = 2 * h;
+        round_in(v, 3, a, b, irs, keys, r);
+        round_in(v, 3, a, b, irs, keys, r + 1);
+    }
+}
+
+fn unrun_32(a: &mut [u64; BUFFER], b: &mut [u64; BUFFER], irs: &[u64; 254], keys: &[u64; 508])
+    requires { ⌜ Room (now a) (now b) ⌝ }
+    ensures { λ r. ⌜ Backward row32 (now (irs .entry)) (now (keys .entry)) 0 (now (a .entry)) (now (b .entry)) (now (a .exit)) (now (b .exit)) ⌝ }
+{
+    let v = katan::row_32();
+    let mut r: u8 = 254;
+    for h in 0..63u8 {
+        r -= 4;
+        unround_in(v, 1, a, b, irs, keys, r + 3);
+        unround_in(v, 1, a, b, irs, keys, r + 2);
+        unround_in(v, 1, a, b, irs, keys, r + 1);
+        unround_in(v, 1, a, b, irs, keys, r);
+    }
+    unround_in(v, 1, a, b, irs, keys, 1);
+    unround_in(v, 1, a, b, irs, keys, 0);
+}
+
+fn unrun_48(a: &mut [u64; BUFFER], b: &mut [u64; BUFFER], irs: &[u64; 254], keys: &[u64; 508])
+    requires { ⌜ Room (now a) (now b) ⌝ }
+    ensures { λ r. ⌜ Backward row48 (now (irs .entry)) (now (keys .entry)) 0 (now (a .entry)) (now (b .entry)) (now (a .exit)) (now (b .exit)) ⌝ }
+{
+    let v = katan::row_48();
+    let mut r: u8 = 254;
+    for h in 0..127u8 {
+        r -= 2;
+        unround_in(v, 2, a, b, irs, keys, r + 1);
+        unround_in(v, 2, a, b, irs, keys, r);
+    }
+}
+
+fn unrun_64(a: &mut [u64; BUFFER], b: &mut [u64; BUFFER], irs: &[u64; 254], keys: &[u64; 508])
+    requires { ⌜ Room (now a) (now b) ⌝ }
+    ensures { λ r. ⌜ Backward row64 (now (irs .entry)) (now (keys .entry)) 0 (now (a .entry)) (now (b .entry)) (now (a .exit)) (now (b .exit)) ⌝ }
+{
+    let v = katan::row_64();
+    let mut r: u8 = 254;
+    for h in 0..127u8 {
+        r -= 2;
+        unround_in(v, 3, a, b, irs, keys, r + 1);
+        unround_in(v, 3, a, b, irs, keys, r);
+    }
+}
+
 fn run(v: Row, a: &mut [u64; BUFFER], b: &mut [u64; BUFFER], irs: &[u64; 254], keys: &[u64; 508])
     requires { ⌜ IsRow v × Room (now a) (now b) ⌝ }
-    ensures { λ r. ⌜ Room (now (a .exit)) (now (b .exit)) ⌝ }
-    ensures { λ r. ⌜ History v (now (irs .entry)) (now (keys .entry)) 0 rounds (now (a .exit)) (now (b .exit)) ⌝ }
-    ensures { λ r. ⌜ KeptBelow v 0 (now (a .entry)) (now (b .entry)) (now (a .exit)) (now (b .exit)) ⌝ }
+    ensures { λ r. ⌜ Forward v (now (irs .entry)) (now (keys .entry)) rounds (now (a .entry)) (now (b .entry)) (now (a .exit)) (now (b .exit)) ⌝ }
 {
     let n = v.n;
     match n {
-        32 => run_at(katan::row_32(), 1, a, b, irs, keys),
-        48 => run_at(katan::row_48(), 2, a, b, irs, keys),
-        _ => run_at(katan::row_64(), 3, a, b, irs, keys),
+        32 => run_32(a, b, irs, keys),
+        48 => run_48(a, b, irs, keys),
+        _ => run_64(a, b, irs, keys),
     }
 }
 
 fn unrun(v: Row, a: &mut [u64; BUFFER], b: &mut [u64; BUFFER], irs: &[u64; 254], keys: &[u64; 508])
     requires { ⌜ IsRow v × Room (now a) (now b) ⌝ }
-    ensures { λ r. ⌜ Room (now (a .exit)) (now (b .exit)) ⌝ }
-    ensures { λ r. ⌜ History v (now (irs .entry)) (now (keys .entry)) 0 rounds (now (a .exit)) (now (b .exit)) ⌝ }
-    ensures { λ r. ⌜ KeptFrom (v .clocks * rounds) (now (a .entry)) (now (b .entry)) (now (a .exit)) (now (b .exit)) ⌝ }
+    ensures { λ r. ⌜ Backward v (now (irs .entry)) (now (keys .entry)) 0 (now (a .entry)) (now (b .entry)) (now (a .exit)) (now (b .exit)) ⌝ }
 {
     let n = v.n;
     match n {
-        32 => unrun_at(katan::row_32(), 1, a, b, irs, keys),
-        48 => unrun_at(katan::row_48(), 2, a, b, irs, keys),
-        _ => unrun_at(katan::row_64(), 3, a, b, irs, keys),
+        32 => unrun_32(a, b, irs, keys),
+        48 => unrun_48(a, b, irs, keys),
+        _ => unrun_64(a, b, irs, keys),
     }
 }
 

@@ -1,5 +1,6 @@
 pub mod Bits
 pub mod Laws
-pub mod Swaps
+pub mod Again
+pub mod Passes
 pub mod Pair
 pub mod Places

@@ -37,10 +37,10 @@ taken : (x y i j z : ℕ) → z ≡ 1 → xor (bit x i) (and (xor (bit x i) (bit
 taken x y i j z e = ap (λ (w : ℕ). xor (bit x i) (and (xor (bit x i) (bit y j)) w)) e ∙ taken-one (bit x i) (bit y j) (bit-lt x i) (bit-lt y j)
 
 module _ (p shift mask : ℕ) (m : Mask p shift mask) (low high : ℕ) where
-  clear-at : (c : ℕ) → c < 64 → bit mask c ≡ 1 - bit c p
+  pub clear-at : (c : ℕ) → c < 64 → bit mask c ≡ 1 - bit c p
   clear-at = from-table (bit mask) (λ c. 1 - bit c p) (m .0)
 
-  above-at : (c : ℕ) → c < 64 → bit (mask * 2 ^ shift) c ≡ bit c p
+  pub above-at : (c : ℕ) → c < 64 → bit (mask * 2 ^ shift) c ≡ bit c p
   above-at = from-table (bit (mask * 2 ^ shift)) (λ c. bit c p) (m .1)
 
   shifted-at : (c : ℕ) → bit (xor (low / 2 ^ shift) high) c ≡ xor (bit low (shift + c)) (bit high c)

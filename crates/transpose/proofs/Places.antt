@@ -22,7 +22,7 @@ same m p q = ap₂ (λ (r c : ℕ). bit (getD m r 0) c) p q
 
 -- ---- one stage
 
-set-le : (c p : ℕ) → bit c p ≡ 1 → 2 ^ p ≤ c
+pub set-le : (c p : ℕ) → bit c p ≡ 1 → 2 ^ p ≤ c
 set-le c p e = omega (arith, one-mul (2 ^ p), mul-le-mul-right {m = 1} {n = c / 2 ^ p} (2 ^ p) (omega arith), div-mul-le-self c (2 ^ p))
 
 module _ (p mask : ℕ) (m : Mask p (2 ^ p) mask) (x y : List ℕ) (s : Swapped 32 (2 ^ p) mask x y) (i c : ℕ) (h : i < 32) (k : c < 64) where

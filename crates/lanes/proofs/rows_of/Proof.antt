@@ -5,7 +5,7 @@ use Prim.Native.Nat.{_-_, _≤_}
 use native.Mathlib.Omega.{arith}
 use borrow.Author.Needs.{needs}
 use lib.ListN.{length, length-set, getD}
-use Rattle.lanes.specs.Words.{Entries}
+use Rattle.katan.specs.Within.{Entries}
 use Rattle.lanes.proofs.Stores.{filled}
 use Rattle.lanes.proofs.rows_of.Statement.{statement}
 use Rattle.lanes.proofs.rows_of.Tie as tie

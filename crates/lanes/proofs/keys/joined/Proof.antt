@@ -11,7 +11,7 @@ use Rattle.lanes.proofs.keys.joined.Statement.{statement}
 use Rattle.lanes.proofs.keys.joined.Tie as tie
 
 abbrev Inv-loop : tie.InvT-loop
-Inv-loop high words₀ i₀ words i = (length words ≡ 80) × (i ≤ 16) × ((j : ℕ) → j < 64 → getD words j 0 ≡ getD words₀ j 0) × ((j : ℕ) → j < i → getD words (64 + j) 0 ≡ getD high j 0)
+Inv-loop high words₀ i₀ words i = (length words ≡ 80) × (i ≤ 16) × ((j : ℕ) → j < 64 → getD words j 0 ≡ getD words₀ j 0) × ((j : ℕ) → j < i → getD words (64 + j) 0 ≡ getD high (48 + j) 0)
 
 abbrev μ-loop : tie.MeasureT-loop
 μ-loop high words₀ i₀ words i = 16 - i
@@ -22,14 +22,17 @@ low-words-requires c κs = search needs
 loop-holds : tie.Need-loop-holds Inv-loop μ-loop
 loop-holds c = (search needs, omega arith, (λ j q. refl), λ j q. absurd (omega arith))
 
+add-words : tie.Need-add-words Inv-loop μ-loop
+add-words c = omega arith
+
 mul-words : tie.Need-mul-words Inv-loop μ-loop
 mul-words c = search needs
 
-array-read-words : tie.Need-array-read-words Inv-loop μ-loop
-array-read-words c = omega arith
+element-copy-out-words : tie.Need-element-copy-out-words Inv-loop μ-loop
+element-copy-out-words c = omega arith
 
-add-words : tie.Need-add-words Inv-loop μ-loop
-add-words c = omega arith
+add-words-2 : tie.Need-add-words-2 Inv-loop μ-loop
+add-words-2 c = omega arith
 
 mul-words-2 : tie.Need-mul-words-2 Inv-loop μ-loop
 mul-words-2 c = search needs
@@ -45,13 +48,13 @@ loop-less c = omega arith
 
 loop-again : tie.Need-loop-again Inv-loop μ-loop
 loop-again c =
-    let l = c .before .loop in
-    let high = c .before .before .before .args .t2 in
-    let x = getD high (l .i) 0 in (
+    let l = c .before .before .loop in
+    let high = c .before .before .before .before .args .high .now in
+    let x = getD high (48 + l .i) 0 in (
       length-set (l .words) (64 + l .i) x ∙ l .inv .0,
       omega arith,
       (λ j q. getD-set-other (l .words) (64 + l .i) j x 0 (λ e. omega arith) ∙ l .inv .2 j q),
-      stored (λ j y. y ≡ getD high j 0) (λ j. 64 + j) (l .words) (l .i) x (omega arith) (λ j q e. omega arith) (l .inv .3) refl,
+      stored (λ j y. y ≡ getD high (48 + j) 0) (λ j. 64 + j) (l .words) (l .i) x (omega arith) (λ j q e. omega arith) (l .inv .3) refl,
     )
 
 returns : tie.Need-returns Inv-loop μ-loop
@@ -67,9 +70,10 @@ joined-spec =
     μ-loop
     low-words-requires
     loop-holds
-    mul-words
-    array-read-words
     add-words
+    mul-words
+    element-copy-out-words
+    add-words-2
     mul-words-2
     array-write-words
     add-i

@@ -9,7 +9,7 @@ use lib.ListN.{length, length-set, getD}
 use Rattle.katan.specs.Bit.{tabulate}
 use Rattle.katan.specs.Key.{keyBitNumber}
 use Rattle.katan.proofs.Tables.{entry, number-below}
-use Rattle.lanes.specs.Words.{Entries}
+use Rattle.katan.specs.Within.{Entries}
 use Rattle.lanes.proofs.Stores.{filled}
 use Rattle.lanes.proofs.keys.ktantan_words.Statement.{statement}
 use Rattle.lanes.proofs.keys.ktantan_words.Tie as tie

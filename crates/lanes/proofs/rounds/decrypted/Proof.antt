@@ -56,9 +56,9 @@ returns c =
     let words = d .args .words .now in
     let f = c .before .before .before .before .before .before .before .before .before .before .before .before .before .first-clock in
     let e = c .before .before .before .before .unrun .ensures in (
-      history-carries v s (d .args .irs .now) (d .args .keys .now) _ _ (c .taken .result) words 254 refl (e .1 .0)
+      history-carries v s (d .args .irs .now) (d .args .keys .now) _ _ (c .taken .result) words 254 refl (e .made)
           (placed-at v _ _ (c .taken .result) _ _ (c .before .first-clock2 .ensures ∙ mul-zero (v .clocks)) (c .taken .ensures .0))
-          (loaded-from v s words _ _ _ _ (v .clocks * 254) (f .result .0) (f .ensures) (c .before .before .before .before .before .before .before .before .before .before .load .ensures .1) (c .before .before .before .before .before .before .before .load2 .ensures .1) (e .1 .1)),
+          (loaded-from v s words _ _ _ _ (v .clocks * 254) (f .result .0) (f .ensures) (c .before .before .before .before .before .before .before .before .before .before .load .ensures .1) (c .before .before .before .before .before .before .before .load2 .ensures .1) (e .kept)),
       c .taken .ensures .1,
     )
 

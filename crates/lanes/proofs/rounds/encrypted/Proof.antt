@@ -37,8 +37,8 @@ returns c =
     let s = listed-sound v (d .pre) in
     let words = d .args .words .now in
     let e = c .before .before .before .before .run .ensures in (
-      history-carries v s (d .args .irs .now) (d .args .keys .now) _ _ words (c .taken .result) 254 refl (e .1 .0)
-          (loaded-below v s words _ _ _ _ (c .before .before .before .before .before .before .before .before .before .load .ensures .1) (c .before .before .before .before .before .before .before .load2 .ensures .1) (e .1 .1))
+      history-carries v s (d .args .irs .now) (d .args .keys .now) _ _ words (c .taken .result) 254 refl (e .made)
+          (loaded-below v s words _ _ _ _ (c .before .before .before .before .before .before .before .before .before .load .ensures .1) (c .before .before .before .before .before .before .before .load2 .ensures .1) (e .kept))
           (placed-at v _ _ (c .taken .result) _ _ (c .before .first-clock .ensures) (c .taken .ensures .0)),
       c .taken .ensures .1,
     )

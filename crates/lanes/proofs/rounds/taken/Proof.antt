@@ -1,18 +1,14 @@
 -- `lanes::rounds::taken` meets its contract.
 -- Assumes nothing.
-use mathlib.Core.Path.{_≡_, refl, sym, ap, _∙_}
-use Prim.Native.Nat.{ℕ, zero, suc}
+use mathlib.Core.Path.{sym, ap, _∙_}
+use Prim.Native.Nat.{ℕ}
 use native.Mathlib.Nat.{zero-add}
 use native.Mathlib.Omega.{arith}
 use borrow.Author.Needs.{needs}
-use lib.ListN.{getD, replicate}
+use lib.ListN.{getD}
+use Rattle.lanes.proofs.Stores.{zeros}
 use Rattle.lanes.proofs.rounds.taken.Statement.{statement}
 use Rattle.lanes.proofs.rounds.taken.Tie as tie
-
-zeros : (n i : ℕ) → _≡_ {A = ℕ} (getD (replicate n 0) i 0) 0
-zeros zero i = refl
-zeros (suc n) zero = refl
-zeros (suc n) (suc i) = zeros n i
 
 add-unloaded : tie.Need-add-unloaded
 add-unloaded c = search needs

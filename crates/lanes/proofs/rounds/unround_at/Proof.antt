@@ -1,31 +1,37 @@
--- `lanes::rounds::unround_at` meets its contract. The loop's invariant: the clocks from t on are made, and at least one is left.
+-- `lanes::rounds::unround_at` meets its contract. The loop's invariant: the last i clocks are made.
 -- Assumes nothing.
 use mathlib.Core.Path.{refl}
-use Prim.Native.Nat.{_+_, _-_, _≤_, _<_}
+use Prim.Native.Nat.{_+_, _-_, _≤_}
 use native.Mathlib.Omega.{arith}
-use Rattle.lanes.proofs.Histories.{Left, left-more}
+use Rattle.lanes.proofs.Histories.{Left, left-as, left-more}
 use Rattle.lanes.proofs.rounds.unround_at.Statement.{statement}
 use Rattle.lanes.proofs.rounds.unround_at.Tie as tie
 
 abbrev Inv-loop : tie.InvT-loop
-Inv-loop v n a₀ b₀ u first t₀ a b t = (first < t) × (t ≤ first + n) × Left v u first n t a₀ b₀ a b
+Inv-loop v n a₀ b₀ u first i₀ a b i = (i ≤ n) × Left v u first n (first + n - i) a₀ b₀ a b
 
 abbrev μ-loop : tie.MeasureT-loop
-μ-loop v n a₀ b₀ u first t₀ a b t = t
-
-add-t : tie.Need-add-t Inv-loop μ-loop
-add-t c = omega arith
+μ-loop v n a₀ b₀ u first i₀ a b i = n - i
 
 loop-holds : tie.Need-loop-holds Inv-loop μ-loop
-loop-holds c = (omega arith, omega arith, record { room = c .pre .1; clocks = λ k z q. absurd (omega arith); kept = record { from1 = λ k q. refl; from2 = λ k q. refl } })
+loop-holds c = (omega arith, record { room = c .pre .1; clocks = λ k z q. absurd (omega arith); kept = record { from1 = λ k q. refl; from2 = λ k q. refl } })
 
-sub-t : tie.Need-sub-t Inv-loop μ-loop
-sub-t c = omega arith
+add-unclock-at : tie.Need-add-unclock-at Inv-loop μ-loop
+add-unclock-at c = omega arith
+
+sub-unclock-at : tie.Need-sub-unclock-at Inv-loop μ-loop
+sub-unclock-at c = omega arith
+
+sub-unclock-at-2 : tie.Need-sub-unclock-at-2 Inv-loop μ-loop
+sub-unclock-at-2 c = omega arith
 
 unclock-at-requires : tie.Need-unclock-at-requires Inv-loop μ-loop
 unclock-at-requires c κs =
-    let s = c .before .before .before .pre .0 in
+    let s = c .before .before .before .before .pre .0 in
     (s, omega (arith, s .len2-fits), omega (arith, s .len1-fits))
+
+add-i : tie.Need-add-i Inv-loop μ-loop
+add-i c = omega arith
 
 loop-less : tie.Need-loop-less Inv-loop μ-loop
 loop-less c = omega arith
@@ -35,16 +41,14 @@ loop-again c =
     let l = c .before .before .before .before .loop in
     let d = c .before .before .before .before .before in
     let first = d .args .from .0 in
-    let more = left-more _ (d .pre .0) (d .args .u) first _ _ _ _ _ _ (d .args .n) (l .t) (l .t - 1) (omega arith) (omega arith) (omega arith) (d .pre .3) (l .inv .2) (c .before .unclock-at .ensures .0) (c .before .unclock-at .ensures .1) in
-    (omega arith, omega arith, more)
+    let n = d .args .n in
+    let t = first + n - l .i - 1 in
+    (omega arith, left-as t (first + n - (l .i + 1)) (omega arith) (left-more _ (d .pre .0) (d .args .u) first _ _ _ _ _ _ n (first + n - l .i) t (omega arith) (omega arith) (omega arith) (d .pre .2) (l .inv .1) (c .unclock-at .ensures .0) (c .unclock-at .ensures .1)))
 
 returns : tie.Need-returns Inv-loop μ-loop
 returns c =
-    let l = c .before .before .before .before .loop in
-    let d = c .before .before .before .before .before in
-    let first = d .args .from .0 in
-    let more = left-more _ (d .pre .0) (d .args .u) first _ _ _ _ _ _ (d .args .n) (l .t) (l .t - 1) (omega arith) (omega arith) (omega arith) (d .pre .3) (l .inv .2) (c .before .unclock-at .ensures .0) (c .before .unclock-at .ensures .1) in
-    (more .room, ((λ k z q. more .clocks k (omega arith) q), more .kept))
+    let l = c .before .loop in
+    (l .inv .1 .room, ((λ k z q. l .inv .1 .clocks k (omega arith) q), l .inv .1 .kept))
 
 pub unround-at-spec : {M : Type 1} → statement M
 unround-at-spec =
@@ -52,10 +56,12 @@ unround-at-spec =
     (tie.spec
     Inv-loop
     μ-loop
-    add-t
     loop-holds
-    sub-t
+    add-unclock-at
+    sub-unclock-at
+    sub-unclock-at-2
     unclock-at-requires
+    add-i
     loop-less
     loop-again
     returns)

@@ -1,0 +1,28 @@
+use borrow.Author.Needs.{needs}
+use Rattle.text.specs.Form.{fill}
+use mathlib.Core.Path.{_∙_}
+use Rattle.answers.proofs.Lines.{as-printed}
+use Rattle.answers.proofs.filled.Statement.{statement}
+use Rattle.answers.proofs.filled.Tie as tie
+use Rattle.answers.proofs.filled.Reads as reads
+use Rattle.answers.proofs.filled.Lts as lts
+use Rattle.answers.proofs.form.write_form.Reads as write-form-reads
+use Rattle.answers.proofs.room.Reads as room-reads
+
+room-requires : tie.Need-room-requires
+room-requires c κs = search needs
+
+slice-aggregate-write-form : tie.Need-slice-aggregate-write-form
+slice-aggregate-write-form c = search needs
+
+write-form-requires : tie.Need-write-form-requires
+write-form-requires c κs = search needs
+
+returns : tie.Need-returns
+returns c =
+    let a = c .before .before .before .before .before .args in
+    as-printed (fill (a .digits) (a .form .now) (a .values)) _ (c .before .write-form .ensures .0) (rw (c .before .before .before .room .ensures) at (c .before .write-form .ensures .1))
+
+pub filled-spec : {M : Type 1} → statement M
+filled-spec =
+    tie.close (tie.spec room-requires slice-aggregate-write-form write-form-requires returns)

@@ -1,0 +1,21 @@
+use borrow.Author.Needs.{needs}
+use Rattle.answers.specs.Printed.{openedLine}
+use Rattle.answers.proofs.Lines.{opened-fits}
+use Rattle.answers.proofs.opened_line.Statement.{statement}
+use Rattle.answers.proofs.opened_line.Tie as tie
+use Rattle.answers.proofs.opened_line.Reads as reads
+use Rattle.answers.proofs.opened_line.Lts as lts
+use Rattle.answers.proofs.filled.Reads as filled-reads
+
+slice-aggregate-filled : tie.Need-slice-aggregate-filled
+slice-aggregate-filled c = search needs
+
+filled-requires : tie.Need-filled-requires
+filled-requires c κs = opened-fits (c .before .args .variant) 0
+
+returns : tie.Need-returns
+unfolding openedLine
+returns c = c .filled .ensures
+
+pub opened-line-spec : {M : Type 1} → statement M
+opened-line-spec = tie.close (tie.spec slice-aggregate-filled filled-requires returns)

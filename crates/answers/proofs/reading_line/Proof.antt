@@ -1,0 +1,56 @@
+use borrow.Author.Needs.{needs}
+use mathlib.Core.Path.{_∙_}
+use Rattle.answers.specs.Printed.{answerLine}
+use Rattle.answers.proofs.Lines.{at-fits}
+use Rattle.answers.proofs.reading_line.Statement.{statement}
+use Rattle.answers.proofs.reading_line.Tie as tie
+use Rattle.answers.proofs.reading_line.Reads as reads
+use Rattle.answers.proofs.reading_line.Lts as lts
+use Rattle.answers.proofs.block_digits.Reads as block-digits-reads
+use Rattle.answers.proofs.filled.Reads as filled-reads
+use Rattle.answers.proofs.refused_line.Reads as refused-line-reads
+
+enum-known-answer : tie.Need-enum-known-answer
+enum-known-answer c = search needs
+
+slice-aggregate-filled : tie.Need-slice-aggregate-filled
+slice-aggregate-filled c = search needs
+
+cast-t12 : tie.Need-cast-t12
+cast-t12 c = search needs
+
+block-digits-requires : tie.Need-block-digits-requires
+block-digits-requires c κs = search needs
+
+filled-requires : tie.Need-filled-requires
+filled-requires c κs =
+    let g = c .before .before .before .before .answer .given .0 in
+    at-fits (c .before .before .before .before .before .before .args .lane) (g .0 .0) (c .block-digits .result) (g .1 .0) (c .block-digits .ensures .1)
+
+enum-known-answer-2 : tie.Need-enum-known-answer-2
+enum-known-answer-2 c = search needs
+
+refused-line-requires : tie.Need-refused-line-requires
+refused-line-requires c κs = search needs
+
+returns : tie.Need-returns
+unfolding answerLine
+returns c = rw (c .before .before .before .before .before .answer .given .1, ← c .before .block-digits .ensures .0) (c .filled .ensures)
+
+returns-2 : tie.Need-returns-2
+unfolding answerLine
+returns-2 c = rw (c .before .before .answer2 .given .1) (c .refused-line .ensures)
+
+pub reading-line-spec : {M : Type 1} → statement M
+reading-line-spec =
+    tie.close
+    (tie.spec
+    enum-known-answer
+    slice-aggregate-filled
+    cast-t12
+    block-digits-requires
+    filled-requires
+    enum-known-answer-2
+    refused-line-requires
+    returns
+    returns-2)

@@ -1,0 +1,126 @@
+-- The steps of the reading of a line, case by case, as the code and the theorem about it meet them.
+-- Assumes nothing.
+use Prim.Native.Nat.{ℕ, _+_, _/_, _%_, _^_, _≤_, _<_}
+use mathlib.Core.Path.{_≡_, refl, sym, ap, _∙_, subst}
+use mathlib.Core.Bool.{Bool, true, false}
+use mathlib.Core.List.{List, [], _∷_}
+use native.Mathlib.Nat.{div-lt-iff-lt-mul}
+use native.Mathlib.Omega.{arith}
+use lib.Dec.{eqb, ltb, leb, lit<}
+use lib.ListN.{length, drop, getD}
+use borrow.Author.Tests.{eq-eqb, ne-eqb, lt-ltb, le-ltb, le-leb}
+use Rattle.katan.specs.Bit.{pick}
+use Rattle.katan.specs.Checks.{variantCheck}
+use Rattle.text.specs.Form.{first, rest}
+use Rattle.command.specs.Written.{lineLength}
+use Rattle.command.specs.Scan.{begin, scan, whole}
+use Rattle.command.specs.Reading.{unopened, kindIn, numberedBy, numbered, openingIn, taken, front, benchForm, readForm, loadForm, forwardForm, backForm, clearForm}
+use Rattle.command.specs.declared.Command.{Command}
+use Rattle.command.specs.declared.Line.{Line}
+use Rattle.command.specs.declared.Line.the-variants.{Taken, Broken}
+use Rattle.command.specs.declared.form.Values.{Values}
+use Rattle.command.specs.declared.form.Fields.{Fields}
+use Rattle.command.specs.declared.lines.Kind.{Kind}
+use Rattle.command.specs.declared.lines.Kind.the-variants as K
+use Rattle.command.specs.declared.lines.Opening.{Opening}
+use Rattle.command.proofs.Steps.{pow-pos}
+use Rattle.command.proofs.Scans.{Scanned, scan-sound, WholeLine, whole-sound, store, zeros}
+
+-- ---- what the first bytes choose
+
+module _ (v : ℕ) (line : List ℕ) (offset : ℕ) where
+  abbrev second : ℕ
+  second = getD line (offset + 1) 0
+
+  pub opening-long : lineLength < length line → unopened ≡ openingIn v line offset
+  unfolding openingIn
+  opening-long h = rw (lt-ltb lineLength (length line) h)
+
+  module _ (short : length line ≤ lineLength) where
+    pub opening-bench : second ≡ 98 → record { kind = K.Bench; number = 0; offset = offset } ≡ openingIn v line offset
+    unfolding openingIn
+    opening-bench e = rw (le-ltb lineLength (length line) short, eq-eqb second 98 e)
+
+    pub opening-closed : (second ≡ 98 → ⊥) → variantCheck v .fault ≡ true → unopened ≡ openingIn v line offset
+    unfolding openingIn
+    opening-closed n f = rw (le-ltb lineLength (length line) short, ne-eqb second 98 n, f)
+
+    module _ (n : second ≡ 98 → ⊥) (f : variantCheck v .fault ≡ false) where
+      pub opening-read : second ≡ 114 → record { kind = K.Read; number = 0; offset = offset } ≡ openingIn v line offset
+      unfolding openingIn
+      opening-read e = rw (le-ltb lineLength (length line) short, ne-eqb second 98 n, f, eq-eqb second 114 e)
+
+      pub opening-number : (second ≡ 114 → ⊥) → numbered line offset ≡ openingIn v line offset
+      unfolding openingIn
+      opening-number m = rw (le-ltb lineLength (length line) short, ne-eqb second 98 n, f, ne-eqb second 114 m)
+
+-- ---- a record's number
+
+module _ (line : List ℕ) (offset : ℕ) (f : Fields) (e : f ≡ scan 0 line (begin offset) front) where
+  pub numbered-is : f .ok ≡ true → record { kind = kindIn (getD line (f .offset) 0); number = f .values .v5; offset = f .offset } ≡ numbered line offset
+  unfolding numbered
+  numbered-is g = ap (λ (b : Bool). pick b (record { kind = kindIn (getD line (f .offset) 0); number = f .values .v5; offset = f .offset }) unopened) (sym g) ∙ ap (numberedBy line) e
+
+  pub numbered-not : f .ok ≡ false → unopened ≡ numbered line offset
+  unfolding numbered
+  numbered-not g = ap (λ (b : Bool). pick b (record { kind = kindIn (getD line (f .offset) 0); number = f .values .v5; offset = f .offset }) unopened) (sym g) ∙ ap (numberedBy line) e
+
+  pub numbered-scanned : f .ok ≡ true → Scanned 0 line (begin offset) f front
+  numbered-scanned g =
+      subst (λ (x : Fields). Scanned 0 line (begin offset) x front) (sym e) (scan-sound 0 line (begin offset) front (subst (λ (x : Fields). x .ok ≡ true) e g))
+
+  pub number-fits : f .ok ≡ true → f .values .v5 ≤ 4294967295
+  number-fits g = let k = numbered-scanned g in subst (_≤ 4294967295) (sym (ap (λ (x : Values). x .v5) (k .stored))) (k .range .0)
+
+-- ---- the rest of the line
+
+module _ (f w : Fields) (make : Values → Command) (e : f ≡ w) where
+  pub taken-is : f .ok ≡ true → Taken (make (f .values)) ≡ taken w make
+  taken-is g = ap (λ (b : Bool). pick b (Taken (make (f .values))) Broken) (sym g) ∙ ap (λ (x : Fields). taken x make) e
+
+  pub taken-not : f .ok ≡ false → Broken ≡ taken w make
+  taken-not g = ap (λ (b : Bool). pick b (Taken (make (f .values))) Broken) (sym g) ∙ ap (λ (x : Fields). taken x make) e
+
+module _ (d : ℕ) (line : List ℕ) (offset : ℕ) (f : Fields) where
+  pub whole-found : (form : List ℕ) → f ≡ whole d line offset form → f .ok ≡ true → WholeLine d line offset form (f .values)
+  whole-found form e g =
+      subst (λ (x : Fields). WholeLine d line offset form (x .values)) (sym e) (whole-sound d line offset form (subst (λ (x : Fields). x .ok ≡ true) e g))
+
+  last-fits : (x : Values) (n : ℕ) → f .values ≡ x → x .v5 ≤ n → f .values .v5 ≤ n
+  last-fits x n e h = subst (_≤ n) (sym (ap (λ (y : Values). y .v5) e)) h
+
+  pub bench-fits : f ≡ whole d line offset benchForm → f .ok ≡ true → f .values .v5 ≤ 255
+  bench-fits e g = let k = whole-found benchForm e g in last-fits _ 255 (k .stored) (k .range .0)
+
+  pub read-fits : f ≡ whole d line offset readForm → f .ok ≡ true → f .values .v5 ≤ 255
+  read-fits e g = let k = whole-found readForm e g in last-fits _ 255 (k .stored) (k .range .0)
+
+  pub forward-fits : f ≡ whole d line offset forwardForm → f .ok ≡ true → f .values .v5 ≤ 255
+  forward-fits e g = let k = whole-found forwardForm e g in last-fits _ 255 (k .stored) (k .range .1 .0)
+
+  pub back-fits : f ≡ whole d line offset backForm → f .ok ≡ true → f .values .v5 ≤ 255
+  back-fits e g = let k = whole-found backForm e g in last-fits _ 255 (k .stored) (k .range .1 .0)
+
+-- the values of a load's line
+abbrev pub keyIn : List ℕ → ℕ
+keyIn vs = first (rest (rest vs))
+
+abbrev pub loadValues : List ℕ → Values
+loadValues vs = record { v1 = first vs; v2 = first (rest vs); v3 = keyIn vs / 16 ^ 16; v4 = keyIn vs % 16 ^ 16; v5 = first (rest (rest (rest vs))) }
+
+pub load-stored : (d : ℕ) (vs : List ℕ) → d ≤ 16 → store d loadForm vs zeros ≡ loadValues vs
+load-stored d vs h = rw (le-leb d 16 h)
+
+pub high-fits : (w : ℕ) → w < 16 ^ 20 → w / 16 ^ 16 < 2 ^ 16
+high-fits w h = div-lt-iff-lt-mul {k = 16 ^ 16} {x = w} {y = 2 ^ 16} (pow-pos 16 16 (lit< tt)) .1 h
+
+pub record LoadFits (x : Values) : Type 0 where
+  pub lane : x .v1 ≤ 255
+  pub position : x .v2 ≤ 255
+  pub high : x .v3 < 2 ^ 16
+
+pub load-fits : (d : ℕ) (line : List ℕ) (offset : ℕ) (f : Fields) → d ≤ 16 → f ≡ whole d line offset loadForm → f .ok ≡ true → LoadFits (f .values)
+load-fits d line offset f h e g =
+    let k = whole-found d line offset f loadForm e g in
+    let s : loadValues (k .values) ≡ f .values = sym (k .stored ∙ load-stored d (k .values) h) in
+    subst LoadFits s (record { lane = k .range .0; position = k .range .1 .0; high = high-fits (keyIn (k .values)) (k .range .1 .1 .0) })

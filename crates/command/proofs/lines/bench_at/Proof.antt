@@ -1,0 +1,42 @@
+use Prim.Native.Nat.{_≤_}
+use Rattle.command.specs.Scan.{whole}
+use Rattle.command.specs.Reading.{benchIn, benchForm}
+use Rattle.command.specs.declared.Command.the-variants.{Bench}
+use Rattle.command.specs.declared.form.Values.{Values}
+use Rattle.command.proofs.Openings.{taken-is, taken-not, bench-fits}
+use borrow.Author.Needs.{needs}
+use Rattle.command.proofs.lines.bench_at.Statement.{statement}
+use Rattle.command.proofs.lines.bench_at.Tie as tie
+use Rattle.command.proofs.lines.bench_at.Reads as reads
+use Rattle.command.proofs.lines.bench_at.Lts as lts
+use Rattle.command.proofs.form.whole_at.Reads as whole-at-reads
+
+-- src/lines.rt:126:26
+slice-aggregate-whole-at : tie.Need-slice-aggregate-whole-at
+slice-aggregate-whole-at c = search needs
+
+-- src/lines.rt:126:9
+whole-at-requires : tie.Need-whole-at-requires
+whole-at-requires c κs = search needs
+
+-- src/lines.rt:128:36
+cast-t9 : tie.Need-cast-t9
+cast-t9 c =
+    let a = c .before .before .before .before .before .args in
+    let f = c .before .before .whole-at .result in
+    let h : f .values .v5 ≤ 255 = bench-fits 0 (a .line .now) (a .offset) f (c .before .before .whole-at .ensures) (c .before .if1 .taken) in
+    search needs
+
+-- src/lines.rt:123:1
+returns : tie.Need-returns
+unfolding benchIn
+returns c = let a = c .before .before .before .before .before .args in taken-is _ (whole 0 (a .line .now) (a .offset) benchForm) (λ (x : Values). Bench (x .v5)) (c .before .before .whole-at .ensures) (c .before .if1 .taken)
+
+-- src/lines.rt:123:1
+returns-2 : tie.Need-returns-2
+unfolding benchIn
+returns-2 c = let a = c .before .before .before .before .args in taken-not _ (whole 0 (a .line .now) (a .offset) benchForm) (λ (x : Values). Bench (x .v5)) (c .before .whole-at .ensures) (c .if1 .left)
+
+pub bench-at-spec : {M : Type 1} → statement M
+bench-at-spec =
+    tie.close (tie.spec slice-aggregate-whole-at whole-at-requires cast-t9 returns returns-2)

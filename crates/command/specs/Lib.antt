@@ -1,0 +1,4 @@
+pub mod Written
+pub mod Scan
+pub mod Reading
+pub mod Reads

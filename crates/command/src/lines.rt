@@ -1,0 +1,215 @@
+// The two steps of reading a line: its first bytes choose the form, and the rest is read by it.
+ghost use mathlib.Core.Path.{_≡_};
+ghost use Prim.Native.Nat.{_/_, _≤_};
+ghost use lib.ListN.{getD};
+ghost use Rattle.katan.specs.Variant.{widthOf};
+ghost use Rattle.command.specs.Reading.{unopened, kindIn, numbered, openingIn, benchIn, readIn, loadIn, forwardIn, backIn, clearIn, commandOf};
+use crate::Command;
+use crate::LINE_LENGTH;
+use crate::Line;
+use crate::form::fields_at;
+use crate::form::whole_at;
+use katan::Key;
+use katan::RowAnswer;
+
+pub enum Kind {
+    Bench,
+    Read,
+    Load,
+    Forward,
+    Back,
+    Clear,
+    Unknown,
+}
+
+// What a line opens with: its kind, a record's number, and the offset that is read next.
+pub struct Opening {
+    pub kind: Kind,
+    pub number: u32,
+    pub offset: usize,
+}
+
+// No form opens so.
+pub fn nothing_opened() -> Opening
+    ensures { λ r. ⌜ r ≡ unopened ⌝ }
+{
+    Opening {
+        kind: Kind::Unknown,
+        number: 0,
+        offset: 0,
+    }
+}
+
+// The kind of a record line whose word starts with a letter.
+pub fn kind_of(letter: u8) -> Kind
+    ensures { λ r. ⌜ r ≡ kindIn letter ⌝ }
+{
+    match letter {
+        b'l' => Kind::Load,
+        b'f' => Kind::Forward,
+        b'b' => Kind::Back,
+        b'c' => Kind::Clear,
+        _ => Kind::Unknown,
+    }
+}
+
+// The byte at an offset, 0 past the end.
+pub fn byte_at(line: &[u8], offset: usize) -> u8
+    ensures { λ r. ⌜ r ≡ getD (now (line .entry)) offset 0 ⌝ }
+{
+    if offset < line.len() { line[offset] } else { 0 }
+}
+
+// A record line's number, and the letter after it.
+pub fn numbered_at(line: &[u8], offset: usize) -> Opening
+    ensures { λ r. ⌜ r ≡ numbered (now (line .entry)) offset ⌝ }
+{
+    let front = fields_at(b"(# (", line, offset, 0);
+    if front.ok {
+        let at = front.offset;
+        Opening {
+            kind: kind_of(byte_at(line, at)),
+            number: front.values.v5 as u32,
+            offset: at,
+        }
+    } else {
+        nothing_opened()
+    }
+}
+
+// What the first bytes of a line from an offset on choose.
+pub fn opening_at(line: &[u8], offset: usize, variant: u8) -> Opening
+    ensures { λ r. ⌜ r ≡ openingIn variant (now (line .entry)) offset ⌝ }
+{
+    if line.len() <= offset {
+        return nothing_opened();
+    }
+    if LINE_LENGTH < line.len() {
+        return nothing_opened();
+    }
+    let letter = byte_at(line, offset + 1);
+    if letter == b'b' {
+        return Opening {
+            kind: Kind::Bench,
+            number: 0,
+            offset,
+        };
+    }
+    match katan::row_of(variant) {
+        RowAnswer::Refused(_) => nothing_opened(),
+        RowAnswer::Found(_) => {
+            if letter == b'r' {
+                return Opening {
+                    kind: Kind::Read,
+                    number: 0,
+                    offset,
+                };
+            }
+            numbered_at(line, offset)
+        }
+    }
+}
+
+// The digits of a block of a variant; KATAN32's where there is no such variant.
+pub fn block_digits(variant: u8) -> usize
+    ensures { λ r. ⌜ (r ≡ widthOf variant / 4) × (r ≤ 16) ⌝ }
+{
+    match katan::row_of(variant) {
+        RowAnswer::Found(row) => row.n / 4,
+        RowAnswer::Refused(_) => katan::row_32().n / 4,
+    }
+}
+
+pub fn bench_at(line: &[u8], offset: usize) -> Line
+    ensures { λ r. ⌜ r ≡ benchIn (now (line .entry)) offset ⌝ }
+{
+    let found = whole_at(b"(bench %)", line, offset, 0);
+    if found.ok {
+        Line::Taken(Command::Bench(found.values.v5 as u8))
+    } else {
+        Line::Broken
+    }
+}
+
+pub fn read_at(line: &[u8], offset: usize) -> Line
+    ensures { λ r. ⌜ r ≡ readIn (now (line .entry)) offset ⌝ }
+{
+    let found = whole_at(b"(read %)", line, offset, 0);
+    if found.ok {
+        Line::Taken(Command::Read(found.values.v5 as u8))
+    } else {
+        Line::Broken
+    }
+}
+
+pub fn load_at(line: &[u8], offset: usize, number: u32, variant: u8) -> Line
+    ensures { λ r. ⌜ r ≡ loadIn variant number (now (line .entry)) offset ⌝ }
+{
+    let digits = block_digits(variant);
+    let found = whole_at(b"load % % (key &) (block *)))", line, offset, digits);
+    if found.ok {
+        let key = Key {
+            low: found.values.v4,
+            high: found.values.v3 as u16,
+        };
+        Line::Taken(Command::Load(
+            number,
+            found.values.v1 as u8,
+            found.values.v2 as u8,
+            key,
+            found.values.v5,
+        ))
+    } else {
+        Line::Broken
+    }
+}
+
+pub fn forward_at(line: &[u8], offset: usize, number: u32) -> Line
+    ensures { λ r. ⌜ r ≡ forwardIn number (now (line .entry)) offset ⌝ }
+{
+    let found = whole_at(b"forward (lanes $) %))", line, offset, 0);
+    if found.ok {
+        Line::Taken(Command::Forward(number, found.values.v4, found.values.v5 as u8))
+    } else {
+        Line::Broken
+    }
+}
+
+pub fn back_at(line: &[u8], offset: usize, number: u32) -> Line
+    ensures { λ r. ⌜ r ≡ backIn number (now (line .entry)) offset ⌝ }
+{
+    let found = whole_at(b"back (lanes $) %))", line, offset, 0);
+    if found.ok {
+        Line::Taken(Command::Back(number, found.values.v4, found.values.v5 as u8))
+    } else {
+        Line::Broken
+    }
+}
+
+pub fn clear_at(line: &[u8], offset: usize, number: u32) -> Line
+    ensures { λ r. ⌜ r ≡ clearIn number (now (line .entry)) offset ⌝ }
+{
+    let found = whole_at(b"clear (lanes $)))", line, offset, 0);
+    if found.ok {
+        Line::Taken(Command::Clear(number, found.values.v5))
+    } else {
+        Line::Broken
+    }
+}
+
+// The command of a kind that the line from an offset on is written for.
+pub fn command_at(line: &[u8], offset: usize, opened: Opening, variant: u8) -> Line
+    ensures { λ r. ⌜ r ≡ commandOf variant (now (line .entry)) offset opened ⌝ }
+{
+    let number = opened.number;
+    let kind = opened.kind;
+    match kind {
+        Kind::Bench => bench_at(line, offset),
+        Kind::Read => read_at(line, offset),
+        Kind::Load => load_at(line, offset, number, variant),
+        Kind::Forward => forward_at(line, offset, number),
+        Kind::Back => back_at(line, offset, number),
+        Kind::Clear => clear_at(line, offset, number),
+        Kind::Unknown => Line::Broken,
+    }
+}

@@ -1,0 +1,32 @@
+use borrow.Author.Needs.{needs}
+use mathlib.Core.Path.{ap, sym, _∙_}
+use mathlib.Core.List.{List, []}
+use mathlib.Core.Bool.{Bool}
+use Prim.Native.Nat.{ℕ}
+use borrow.Author.Tests.{eq-eqb, ne-eqb}
+use Rattle.answers.specs.Printed.{printedAs}
+use Rattle.script.specs.Pieces.{atEnd}
+use Rattle.script.specs.declared.Turn.{Turn}
+use Rattle.script.proofs.finish.Statement.{statement}
+use Rattle.script.proofs.finish.Tie as tie
+use Rattle.script.proofs.finish.Reads as reads
+use Rattle.script.proofs.finish.Lts as lts
+use Rattle.answers.proofs.nothing.Reads as nothing-reads
+use Rattle.script.proofs.ended.Reads as ended-reads
+
+nothing-requires : tie.Need-nothing-requires
+nothing-requires c κs = search needs
+
+returns : tie.Need-returns
+unfolding atEnd
+returns c = rw (eq-eqb _ _ (c .before .if1 .taken)) (c .nothing .ensures)
+
+ended-requires : tie.Need-ended-requires
+ended-requires c κs = search needs
+
+returns-2 : tie.Need-returns-2
+unfolding atEnd
+returns-2 c = rw (ne-eqb _ _ (c .before .before .if1 .left)) (ap (λ (t : Turn). t .printed) (c .before .ended .ensures))
+
+pub finish-spec : {M : Type 1} → statement M
+finish-spec = tie.close (tie.spec nothing-requires returns ended-requires returns-2)

@@ -1,0 +1,131 @@
+use borrow.Author.Needs.{needs}
+use mathlib.Core.Path.{sym, ap, _∙_}
+use mathlib.Core.List.{List}
+use Prim.Native.Nat.{ℕ}
+use Rattle.command.specs.declared.Command.{Command}
+use Rattle.script.specs.Interpreter.{sends, obeys}
+use Rattle.script.specs.Session.{variantOf, openBench, sessionTransition, turnOf}
+use Rattle.script.proofs.obeyed.Statement.{statement}
+use Rattle.script.proofs.obeyed.Tie as tie
+use Rattle.script.proofs.obeyed.Reads as reads
+use Rattle.script.proofs.obeyed.Lts as lts
+use Rattle.script.proofs.opened.Reads as opened-reads
+use Rattle.script.proofs.read.Reads as read-reads
+use Rattle.script.proofs.records.load_record.Reads as load-record-reads
+use Rattle.script.proofs.records.record_bytes.Reads as record-bytes-reads
+use Rattle.script.proofs.sent.Reads as sent-reads
+
+enum-known-command : tie.Need-enum-known-command
+enum-known-command c = search needs
+
+opened-requires : tie.Need-opened-requires
+opened-requires c κs = search needs
+
+enum-known-command-2 : tie.Need-enum-known-command-2
+enum-known-command-2 c = search needs
+
+read-requires : tie.Need-read-requires
+read-requires c κs = search needs
+
+enum-known-command-3 : tie.Need-enum-known-command-3
+enum-known-command-3 c = search needs
+
+load-record-requires : tie.Need-load-record-requires
+load-record-requires c κs = search needs
+
+sent-requires : tie.Need-sent-requires
+sent-requires c κs = search needs
+
+enum-known-command-4 : tie.Need-enum-known-command-4
+enum-known-command-4 c = search needs
+
+record-bytes-requires : tie.Need-record-bytes-requires
+record-bytes-requires c κs = search needs
+
+sent-requires-2 : tie.Need-sent-requires-2
+sent-requires-2 c κs = search needs
+
+enum-known-command-5 : tie.Need-enum-known-command-5
+enum-known-command-5 c = search needs
+
+record-bytes-requires-2 : tie.Need-record-bytes-requires-2
+record-bytes-requires-2 c κs = search needs
+
+sent-requires-3 : tie.Need-sent-requires-3
+sent-requires-3 c κs = search needs
+
+enum-known-command-6 : tie.Need-enum-known-command-6
+enum-known-command-6 c = search needs
+
+record-bytes-requires-3 : tie.Need-record-bytes-requires-3
+record-bytes-requires-3 c κs = search needs
+
+sent-requires-4 : tie.Need-sent-requires-4
+sent-requires-4 c κs = search needs
+
+returns : tie.Need-returns
+unfolding obeys
+returns c = c .opened .ensures ∙ ap (λ (x : Command). turnOf (obeys variantOf openBench sessionTransition (c .before .before .before .before .args .session) x)) (sym (c .before .before .command .given .1))
+
+returns-2 : tie.Need-returns-2
+unfolding obeys
+returns-2 c = c .read .ensures ∙ ap (λ (x : Command). turnOf (obeys variantOf openBench sessionTransition (c .before .before .before .before .args .session) x)) (sym (c .before .before .command2 .given .1))
+
+returns-3 : tie.Need-returns-3
+unfolding obeys
+returns-3 c =
+    let x = c .before .before .before .before .before .args .session in
+    c .sent .ensures
+    ∙ ap (λ (b : List ℕ). turnOf (sends variantOf openBench sessionTransition x b)) (c .before .load-record .ensures)
+    ∙ ap (λ (y : Command). turnOf (obeys variantOf openBench sessionTransition x y)) (sym (c .before .before .before .command3 .given .1))
+
+returns-4 : tie.Need-returns-4
+unfolding obeys
+returns-4 c =
+    let x = c .before .before .before .before .before .args .session in
+    c .sent2 .ensures
+    ∙ ap (λ (b : List ℕ). turnOf (sends variantOf openBench sessionTransition x b)) (c .before .record-bytes .ensures)
+    ∙ ap (λ (y : Command). turnOf (obeys variantOf openBench sessionTransition x y)) (sym (c .before .before .before .command4 .given .1))
+
+returns-5 : tie.Need-returns-5
+unfolding obeys
+returns-5 c =
+    let x = c .before .before .before .before .before .args .session in
+    c .sent3 .ensures
+    ∙ ap (λ (b : List ℕ). turnOf (sends variantOf openBench sessionTransition x b)) (c .before .record-bytes2 .ensures)
+    ∙ ap (λ (y : Command). turnOf (obeys variantOf openBench sessionTransition x y)) (sym (c .before .before .before .command5 .given .1))
+
+returns-6 : tie.Need-returns-6
+unfolding obeys
+returns-6 c =
+    let x = c .before .before .before .before .before .args .session in
+    c .sent4 .ensures
+    ∙ ap (λ (b : List ℕ). turnOf (sends variantOf openBench sessionTransition x b)) (c .before .record-bytes3 .ensures)
+    ∙ ap (λ (y : Command). turnOf (obeys variantOf openBench sessionTransition x y)) (sym (c .before .before .before .command6 .given .1))
+
+pub obeyed-spec : {M : Type 1} → statement M
+obeyed-spec =
+    tie.close
+    (tie.spec
+    enum-known-command
+    opened-requires
+    enum-known-command-2
+    read-requires
+    enum-known-command-3
+    load-record-requires
+    sent-requires
+    enum-known-command-4
+    record-bytes-requires
+    sent-requires-2
+    enum-known-command-5
+    record-bytes-requires-2
+    sent-requires-3
+    enum-known-command-6
+    record-bytes-requires-3
+    sent-requires-4
+    returns
+    returns-2
+    returns-3
+    returns-4
+    returns-5
+    returns-6)

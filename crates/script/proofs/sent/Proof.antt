@@ -1,0 +1,25 @@
+use borrow.Author.Needs.{needs}
+use Rattle.script.proofs.Turns.{sent-turn}
+use Rattle.script.proofs.sent.Statement.{statement}
+use Rattle.script.proofs.sent.Tie as tie
+use Rattle.script.proofs.sent.Reads as reads
+use Rattle.script.proofs.sent.Lts as lts
+use Rattle.answers.proofs.reply_line.Reads as reply-line-reads
+use Rattle.stepping.proofs.arrive_once.Reads as arrive-once-reads
+
+slice-aggregate-arrive-once : tie.Need-slice-aggregate-arrive-once
+slice-aggregate-arrive-once c = search needs
+
+arrive-once-requires : tie.Need-arrive-once-requires
+arrive-once-requires c κs = search needs
+
+reply-line-requires : tie.Need-reply-line-requires
+reply-line-requires c κs = search needs
+
+returns : tie.Need-returns
+returns c = sent-turn (c .before .before .before .before .before .before .before .args .session) _ (c .before .before .before .arrive-once .result) (c .reply-line .result) (c .before .before .before .arrive-once .ensures) (c .reply-line .ensures)
+
+pub sent-spec : {M : Type 1} → statement M
+sent-spec =
+    tie.close
+    (tie.spec slice-aggregate-arrive-once arrive-once-requires reply-line-requires returns)

@@ -1,0 +1,15 @@
+-- The 40-byte record that a record line names (document 01, "Records and turns" and "Script").
+-- Assumes nothing.
+use Prim.Native.Nat.{ℕ, zero, suc, _/_, _%_, _^_}
+use mathlib.Core.List.{List, [], _∷_, _++_}
+use lib.ListN.{replicate}
+
+-- k bytes of a number, low byte first
+unfoldable pub lowBytes : ℕ → ℕ → List ℕ
+lowBytes zero n = []
+lowBytes (suc k) n = n % 2 ^ 8 ∷ lowBytes k (n / 2 ^ 8)
+
+-- byte 0 kind, 1 lane, 2 load position or move count, 3 zero; 4–7 number, 8–15 mask, 16–25 key, 26–33 block, 34–39 zero
+unfoldable pub recordBytes : (kind lane count number mask key block : ℕ) → List ℕ
+recordBytes kind lane count number mask key block =
+    (kind ∷ lane ∷ count ∷ 0 ∷ []) ++ lowBytes 4 number ++ lowBytes 8 mask ++ lowBytes 10 key ++ lowBytes 8 block ++ replicate 6 0
