@@ -61,6 +61,9 @@ static void our_blocks(int variant, int decrypt, const uint8_t *k, const uint64_
 static many_blocks *const measured[] = {our_blocks, our_many, peer_scalar, peer_sliced, peer_sliced_transposed};
 enum { OUR_BLOCKS, OUR_MANY, SCALAR, SLICED, TRANSPOSED, MEASURED };
 
+// How many calls are timed together, so that the clock's own time does not count.
+static const int calls[] = {1, 20, 1, 4, 10};
+
 static void blocks_table(int decrypt) {
     printf("\n%s, 64 blocks with 64 keys: times as fast as\n", decrypt ? "Decryption" : "Encryption");
     printf("variant   one by one:  many together:\n");
@@ -80,8 +83,8 @@ static void blocks_table(int decrypt) {
         for (int repeat = 0; repeat < REPEATS; repeat++) {
             for (int i = 0; i < MEASURED; i++) {
                 double start = nanoseconds();
-                measured[i](variant, decrypt, keys, blocks, out, LANES);
-                double taken = nanoseconds() - start;
+                for (int call = 0; call < calls[i]; call++) measured[i](variant, decrypt, keys, blocks, out, LANES);
+                double taken = (nanoseconds() - start) / calls[i];
                 if (taken < best[i]) best[i] = taken;
             }
         }

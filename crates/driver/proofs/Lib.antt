@@ -1,0 +1,8 @@
+mod Numbers
+mod Turns
+mod Words
+mod Statuses
+mod Arrivals
+mod ReadBack
+mod Replays
+mod Follows
