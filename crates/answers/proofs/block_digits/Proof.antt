@@ -9,10 +9,6 @@ use Rattle.answers.specs.Printed.{blockDigits}
 use Rattle.answers.proofs.Lines.{few-digits}
 use Rattle.answers.proofs.block_digits.Statement.{statement}
 use Rattle.answers.proofs.block_digits.Tie as tie
-use Rattle.answers.proofs.block_digits.Reads as reads
-use Rattle.answers.proofs.block_digits.Lts as lts
-use Rattle.katan.proofs.row_32.Reads as row-32-reads
-use Rattle.katan.proofs.row_of.Reads as row-of-reads
 
 row-of-requires : tie.Need-row-of-requires
 row-of-requires c κs = search needs
@@ -36,7 +32,7 @@ returns-2 : tie.Need-returns-2
 returns-2 c =
     let d = c .before .before .before .before in
     let e : _≡_ {A = ℕ} _ (blockDigits (d .before .args .variant)) = ap (λ (r : Row). r .n / 4)
-        (c .before .row-32 .ensures ∙ no-variant (d .before .args .variant) (row-refused (d .before .args .variant) (d .row-of .result) _ (d .row-of .ensures) (c .before .before .enum-told .given .1) .0)) in
+    (c .before .row-32 .ensures ∙ no-variant (d .before .args .variant) (row-refused (d .before .args .variant) (d .row-of .result) _ (d .row-of .ensures) (c .before .before .enum-told .given .1) .0)) in
     (e, subst⁻¹ (λ (n : ℕ). n ≤ 16) e (few-digits (d .before .args .variant)))
 
 pub block-digits-spec : {M : Type 1} → statement M

@@ -8,8 +8,6 @@ use lib.ListN.{length, take, drop, length-set, take-append-drop}
 use Rattle.answers.proofs.Writing.{copied-more}
 use Rattle.answers.proofs.copy.Statement.{statement}
 use Rattle.answers.proofs.copy.Tie as tie
-use Rattle.answers.proofs.copy.Reads as reads
-use Rattle.answers.proofs.copy.Lts as lts
 
 abbrev Inv-loop : tie.InvT-loop
 Inv-loop from count out₀ at i₀ out i = (i ≤ count) × (length out ≡ length out₀) × (out ≡ take at out₀ ++ (take i from ++ drop (at + i) out₀))

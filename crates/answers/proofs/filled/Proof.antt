@@ -4,10 +4,6 @@ use mathlib.Core.Path.{_∙_}
 use Rattle.answers.proofs.Lines.{as-printed}
 use Rattle.answers.proofs.filled.Statement.{statement}
 use Rattle.answers.proofs.filled.Tie as tie
-use Rattle.answers.proofs.filled.Reads as reads
-use Rattle.answers.proofs.filled.Lts as lts
-use Rattle.answers.proofs.form.write_form.Reads as write-form-reads
-use Rattle.answers.proofs.room.Reads as room-reads
 
 room-requires : tie.Need-room-requires
 room-requires c κs = search needs

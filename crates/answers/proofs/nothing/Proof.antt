@@ -5,9 +5,6 @@ use Prim.Native.Nat.{ℕ}
 use Rattle.answers.specs.declared.Printed.{Printed}
 use Rattle.answers.proofs.nothing.Statement.{statement}
 use Rattle.answers.proofs.nothing.Tie as tie
-use Rattle.answers.proofs.nothing.Reads as reads
-use Rattle.answers.proofs.nothing.Lts as lts
-use Rattle.answers.proofs.room.Reads as room-reads
 
 room-requires : tie.Need-room-requires
 room-requires c κs = search needs

@@ -3,9 +3,6 @@ use Rattle.answers.specs.Printed.{openedLine}
 use Rattle.answers.proofs.Lines.{opened-fits}
 use Rattle.answers.proofs.opened_line.Statement.{statement}
 use Rattle.answers.proofs.opened_line.Tie as tie
-use Rattle.answers.proofs.opened_line.Reads as reads
-use Rattle.answers.proofs.opened_line.Lts as lts
-use Rattle.answers.proofs.filled.Reads as filled-reads
 
 slice-aggregate-filled : tie.Need-slice-aggregate-filled
 slice-aggregate-filled c = search needs

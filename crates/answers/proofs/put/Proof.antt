@@ -5,9 +5,6 @@ use lib.ListN.{length}
 use Rattle.answers.proofs.Lines.{too-long, no-place, has-place}
 use Rattle.answers.proofs.put.Statement.{statement}
 use Rattle.answers.proofs.put.Tie as tie
-use Rattle.answers.proofs.put.Reads as reads
-use Rattle.answers.proofs.put.Lts as lts
-use Rattle.answers.proofs.copy.Reads as copy-reads
 
 returns : tie.Need-returns
 returns c =

@@ -4,11 +4,6 @@ use Rattle.answers.specs.Printed.{answerLine}
 use Rattle.answers.proofs.Lines.{at-fits}
 use Rattle.answers.proofs.reading_line.Statement.{statement}
 use Rattle.answers.proofs.reading_line.Tie as tie
-use Rattle.answers.proofs.reading_line.Reads as reads
-use Rattle.answers.proofs.reading_line.Lts as lts
-use Rattle.answers.proofs.block_digits.Reads as block-digits-reads
-use Rattle.answers.proofs.filled.Reads as filled-reads
-use Rattle.answers.proofs.refused_line.Reads as refused-line-reads
 
 enum-known-answer : tie.Need-enum-known-answer
 enum-known-answer c = search needs

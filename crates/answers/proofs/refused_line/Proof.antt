@@ -3,10 +3,6 @@ use Rattle.answers.specs.Printed.{answerLine}
 use Rattle.answers.proofs.Lines.{refused-fits}
 use Rattle.answers.proofs.refused_line.Statement.{statement}
 use Rattle.answers.proofs.refused_line.Tie as tie
-use Rattle.answers.proofs.refused_line.Reads as reads
-use Rattle.answers.proofs.refused_line.Lts as lts
-use Rattle.answers.proofs.filled.Reads as filled-reads
-use Rattle.katan.proofs.refusal_number.Reads as refusal-number-reads
 
 refusal-number-requires : tie.Need-refusal-number-requires
 refusal-number-requires c κs = search needs

@@ -3,10 +3,6 @@ use Rattle.answers.specs.Printed.{answerLine}
 use Rattle.answers.proofs.Lines.{done-fits, again-fits}
 use Rattle.answers.proofs.reply_line.Statement.{statement}
 use Rattle.answers.proofs.reply_line.Tie as tie
-use Rattle.answers.proofs.reply_line.Reads as reads
-use Rattle.answers.proofs.reply_line.Lts as lts
-use Rattle.answers.proofs.filled.Reads as filled-reads
-use Rattle.answers.proofs.refused_line.Reads as refused-line-reads
 
 enum-known-reply : tie.Need-enum-known-reply
 enum-known-reply c = search needs

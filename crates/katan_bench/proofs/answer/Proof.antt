@@ -8,11 +8,6 @@ use lib.ListN.{length, take, drop, length-take, length-drop}
 use Rattle.script.proofs.Begun.{used-some}
 use Rattle.katan_bench.proofs.answer.Statement.{statement}
 use Rattle.katan_bench.proofs.answer.Tie as tie
-use Rattle.katan_bench.proofs.answer.Reads as reads
-use Rattle.katan_bench.proofs.answer.Lts as lts
-use Rattle.answers.proofs.put.Reads as put-reads
-use Rattle.katan_bench.proofs.write.Reads as write-reads
-use Rattle.script.proofs.take_piece.Reads as take-piece-reads
 
 abbrev Inv-loop : tie.InvT-loop
 Inv-loop piece out₀ now₀ at₀ count₀ out now at count = (at ≤ length piece) × (length out ≡ length out₀)

@@ -3,9 +3,6 @@ use mathlib.Core.Path.{_≡_, refl}
 use lib.ListN.{length}
 use Rattle.katan_bench.proofs.run.Statement.{statement}
 use Rattle.katan_bench.proofs.run.Tie as tie
-use Rattle.katan_bench.proofs.run.Reads as reads
-use Rattle.katan_bench.proofs.run.Lts as lts
-use Rattle.katan_bench.proofs.turn.Reads as turn-reads
 
 abbrev Inv-loop : tie.InvT-loop
 Inv-loop out₀ state₀ turns₀ out state turns = length out ≡ length out₀

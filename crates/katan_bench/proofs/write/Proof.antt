@@ -3,9 +3,6 @@ use mathlib.Core.Path.{sym}
 use lib.Seq.{length-take-le}
 use Rattle.katan_bench.proofs.write.Statement.{statement}
 use Rattle.katan_bench.proofs.write.Tie as tie
-use Rattle.katan_bench.proofs.write.Reads as reads
-use Rattle.katan_bench.proofs.write.Lts as lts
-use Rattle.io.proofs.write_all.Reads as write-all-reads
 
 slice-aggregate-write-all : tie.Need-slice-aggregate-write-all
 slice-aggregate-write-all c = sym (length-take-le (c .before .before .before .args .count) (c .before .before .before .args .out .now) (c .before .if1 .taken))

@@ -10,10 +10,6 @@ use Rattle.script.specs.Session.{sessionLine, turnOf}
 use Rattle.script.proofs.Begun.{shown-all}
 use Rattle.script.proofs.ended.Statement.{statement}
 use Rattle.script.proofs.ended.Tie as tie
-use Rattle.script.proofs.ended.Reads as reads
-use Rattle.script.proofs.ended.Lts as lts
-use Rattle.script.proofs.line.Reads as line-reads
-use Rattle.script.proofs.shown.Reads as shown-reads
 
 shown-requires : tie.Need-shown-requires
 shown-requires c κs = search needs

@@ -9,10 +9,6 @@ use Rattle.script.specs.Pieces.{atEnd}
 use Rattle.script.specs.declared.Turn.{Turn}
 use Rattle.script.proofs.finish.Statement.{statement}
 use Rattle.script.proofs.finish.Tie as tie
-use Rattle.script.proofs.finish.Reads as reads
-use Rattle.script.proofs.finish.Lts as lts
-use Rattle.answers.proofs.nothing.Reads as nothing-reads
-use Rattle.script.proofs.ended.Reads as ended-reads
 
 nothing-requires : tie.Need-nothing-requires
 nothing-requires c κs = search needs

@@ -4,12 +4,6 @@ use Rattle.script.specs.Interpreter.{takesAs}
 use Rattle.script.proofs.Turns.{line-turn, broken-turn}
 use Rattle.script.proofs.line.Statement.{statement}
 use Rattle.script.proofs.line.Tie as tie
-use Rattle.script.proofs.line.Reads as reads
-use Rattle.script.proofs.line.Lts as lts
-use Rattle.answers.proofs.refused_line.Reads as refused-line-reads
-use Rattle.command.proofs.command_in.Reads as command-in-reads
-use Rattle.script.proofs.obeyed.Reads as obeyed-reads
-use Rattle.script.proofs.variant_of.Reads as variant-of-reads
 
 variant-of-requires : tie.Need-variant-of-requires
 variant-of-requires c κs = search needs

@@ -7,13 +7,6 @@ use Rattle.script.specs.Interpreter.{sends, obeys}
 use Rattle.script.specs.Session.{variantOf, openBench, sessionTransition, turnOf}
 use Rattle.script.proofs.obeyed.Statement.{statement}
 use Rattle.script.proofs.obeyed.Tie as tie
-use Rattle.script.proofs.obeyed.Reads as reads
-use Rattle.script.proofs.obeyed.Lts as lts
-use Rattle.script.proofs.opened.Reads as opened-reads
-use Rattle.script.proofs.read.Reads as read-reads
-use Rattle.script.proofs.records.load_record.Reads as load-record-reads
-use Rattle.script.proofs.records.record_bytes.Reads as record-bytes-reads
-use Rattle.script.proofs.sent.Reads as sent-reads
 
 enum-known-command : tie.Need-enum-known-command
 enum-known-command c = search needs

@@ -7,11 +7,6 @@ use mathlib.Core.Bool.{true}
 use Rattle.script.proofs.Turns.{opened-turn, refused-turn}
 use Rattle.script.proofs.opened.Statement.{statement}
 use Rattle.script.proofs.opened.Tie as tie
-use Rattle.script.proofs.opened.Reads as reads
-use Rattle.script.proofs.opened.Lts as lts
-use Rattle.answers.proofs.opened_line.Reads as opened-line-reads
-use Rattle.answers.proofs.refused_line.Reads as refused-line-reads
-use Rattle.stepping.proofs.open.Reads as open-reads
 
 open-requires : tie.Need-open-requires
 open-requires c κs = search needs

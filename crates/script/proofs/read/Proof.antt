@@ -2,11 +2,6 @@ use borrow.Author.Needs.{needs}
 use Rattle.script.proofs.Turns.{read-turn}
 use Rattle.script.proofs.read.Statement.{statement}
 use Rattle.script.proofs.read.Tie as tie
-use Rattle.script.proofs.read.Reads as reads
-use Rattle.script.proofs.read.Lts as lts
-use Rattle.answers.proofs.reading_line.Reads as reading-line-reads
-use Rattle.script.proofs.variant_of.Reads as variant-of-reads
-use Rattle.stepping.proofs.read.Reads as read-reads
 
 variant-of-requires : tie.Need-variant-of-requires
 variant-of-requires c κs = search needs

@@ -2,10 +2,6 @@ use borrow.Author.Needs.{needs}
 use Rattle.script.proofs.Turns.{sent-turn}
 use Rattle.script.proofs.sent.Statement.{statement}
 use Rattle.script.proofs.sent.Tie as tie
-use Rattle.script.proofs.sent.Reads as reads
-use Rattle.script.proofs.sent.Lts as lts
-use Rattle.answers.proofs.reply_line.Reads as reply-line-reads
-use Rattle.stepping.proofs.arrive_once.Reads as arrive-once-reads
 
 slice-aggregate-arrive-once : tie.Need-slice-aggregate-arrive-once
 slice-aggregate-arrive-once c = search needs

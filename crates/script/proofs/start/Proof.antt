@@ -7,10 +7,6 @@ use Rattle.script.specs.Pieces.{nothingPending}
 use Rattle.script.specs.declared.Script.{Script}
 use Rattle.script.proofs.start.Statement.{statement}
 use Rattle.script.proofs.start.Tie as tie
-use Rattle.script.proofs.start.Reads as reads
-use Rattle.script.proofs.start.Lts as lts
-use Rattle.stepping.proofs.fresh_bench.Reads as fresh-bench-reads
-use Rattle.stepping.proofs.fresh_link.Reads as fresh-link-reads
 
 fresh-bench-requires : tie.Need-fresh-bench-requires
 fresh-bench-requires c κs = search needs

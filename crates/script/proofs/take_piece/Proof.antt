@@ -9,12 +9,6 @@ use Rattle.script.specs.Pieces.{lineEnd, keptAll}
 use Rattle.script.proofs.Begun.{none-step, line-step}
 use Rattle.script.proofs.take_piece.Statement.{statement}
 use Rattle.script.proofs.take_piece.Tie as tie
-use Rattle.script.proofs.take_piece.Reads as reads
-use Rattle.script.proofs.take_piece.Lts as lts
-use Rattle.answers.proofs.nothing.Reads as nothing-reads
-use Rattle.script.proofs.ended.Reads as ended-reads
-use Rattle.script.proofs.splitting.keep.Reads as keep-reads
-use Rattle.script.proofs.splitting.line_end.Reads as line-end-reads
 
 line-end-requires : tie.Need-line-end-requires
 line-end-requires c κs = search needs

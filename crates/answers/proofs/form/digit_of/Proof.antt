@@ -3,8 +3,6 @@ use borrow.Author.Tests.{lt-ltb, le-ltb}
 use Rattle.text.specs.Digits.{digit}
 use Rattle.answers.proofs.form.digit_of.Statement.{statement}
 use Rattle.answers.proofs.form.digit_of.Tie as tie
-use Rattle.answers.proofs.form.digit_of.Reads as reads
-use Rattle.answers.proofs.form.digit_of.Lts as lts
 
 cast-result : tie.Need-cast-result
 cast-result c = search needs

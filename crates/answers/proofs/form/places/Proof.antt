@@ -5,8 +5,6 @@ use native.Mathlib.Omega.{arith}
 use Rattle.text.proofs.Lengths.{div-none, place-up, place-few, place-next, place-end}
 use Rattle.answers.proofs.form.places.Statement.{statement}
 use Rattle.answers.proofs.form.places.Tie as tie
-use Rattle.answers.proofs.form.places.Reads as reads
-use Rattle.answers.proofs.form.places.Lts as lts
 
 abbrev Inv-loop : tie.InvT-loop
 Inv-loop value k₀ v₀ k v = (v ≡ value / 10 ^ k) × (0 < k → 10 ^ k ≤ value) × (k ≤ 19)

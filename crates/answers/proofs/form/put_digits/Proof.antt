@@ -10,9 +10,6 @@ use Rattle.text.proofs.Lengths.{div-none}
 use Rattle.answers.proofs.Writing.{none-written, taken-more, written-more, all-written}
 use Rattle.answers.proofs.form.put_digits.Statement.{statement}
 use Rattle.answers.proofs.form.put_digits.Tie as tie
-use Rattle.answers.proofs.form.put_digits.Reads as reads
-use Rattle.answers.proofs.form.put_digits.Lts as lts
-use Rattle.answers.proofs.form.digit_of.Reads as digit-of-reads
 
 abbrev Inv-loop : tie.InvT-loop
 Inv-loop out₀ at base count value v₀ done₀ out v done =

@@ -8,10 +8,6 @@ use Rattle.answers.specs.Pieces.{putAt}
 use Rattle.answers.proofs.Writing.{as-letter, as-digits, letter-written, digits-put}
 use Rattle.answers.proofs.form.put_piece.Statement.{statement}
 use Rattle.answers.proofs.form.put_piece.Tie as tie
-use Rattle.answers.proofs.form.put_piece.Reads as reads
-use Rattle.answers.proofs.form.put_piece.Lts as lts
-use Rattle.answers.proofs.form.put_digits.Reads as put-digits-reads
-use Rattle.answers.proofs.form.shape_of.Reads as shape-of-reads
 
 shape-of-requires : tie.Need-shape-of-requires
 shape-of-requires c κs = search needs

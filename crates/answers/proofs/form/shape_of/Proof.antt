@@ -4,9 +4,6 @@ use Rattle.text.specs.Form.{pieceOf}
 use Rattle.answers.proofs.Writing.{number-shape, digits-shape, letter-shape}
 use Rattle.answers.proofs.form.shape_of.Statement.{statement}
 use Rattle.answers.proofs.form.shape_of.Tie as tie
-use Rattle.answers.proofs.form.shape_of.Reads as reads
-use Rattle.answers.proofs.form.shape_of.Lts as lts
-use Rattle.answers.proofs.form.places.Reads as places-reads
 
 places-requires : tie.Need-places-requires
 places-requires c κs = search needs

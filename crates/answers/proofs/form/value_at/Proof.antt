@@ -4,8 +4,6 @@ use native.Mathlib.Omega.{arith}
 use lib.ListN.{length, List·getD-eq-default}
 use Rattle.answers.proofs.form.value_at.Statement.{statement}
 use Rattle.answers.proofs.form.value_at.Tie as tie
-use Rattle.answers.proofs.form.value_at.Reads as reads
-use Rattle.answers.proofs.form.value_at.Lts as lts
 
 mul-result : tie.Need-mul-result
 mul-result c = search needs

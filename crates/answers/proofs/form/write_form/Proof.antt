@@ -9,10 +9,6 @@ use Rattle.answers.specs.Pieces.{taken, putAt}
 use Rattle.answers.proofs.Writing.{text, taken-few, piece-fits, turn, form-end}
 use Rattle.answers.proofs.form.write_form.Statement.{statement}
 use Rattle.answers.proofs.form.write_form.Tie as tie
-use Rattle.answers.proofs.form.write_form.Reads as reads
-use Rattle.answers.proofs.form.write_form.Lts as lts
-use Rattle.answers.proofs.form.put_piece.Reads as put-piece-reads
-use Rattle.answers.proofs.form.value_at.Reads as value-at-reads
 
 abbrev Inv-loop : tie.InvT-loop
 Inv-loop form values digits out₀ at₀ n₀ f₀ out at n f =

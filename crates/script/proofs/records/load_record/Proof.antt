@@ -5,10 +5,6 @@ use Rattle.script.specs.Record.{lowBytes}
 use Rattle.script.proofs.Bytes.{putAt, loaded-record}
 use Rattle.script.proofs.records.load_record.Statement.{statement}
 use Rattle.script.proofs.records.load_record.Tie as tie
-use Rattle.script.proofs.records.load_record.Reads as reads
-use Rattle.script.proofs.records.load_record.Lts as lts
-use Rattle.script.proofs.records.put_number.Reads as put-number-reads
-use Rattle.script.proofs.records.record_bytes.Reads as record-bytes-reads
 
 record-bytes-requires : tie.Need-record-bytes-requires
 record-bytes-requires c κs = search needs

@@ -9,8 +9,6 @@ use Rattle.script.specs.Record.{lowBytes}
 use Rattle.script.proofs.Bytes.{put-before, put-after, put-end}
 use Rattle.script.proofs.records.put_number.Statement.{statement}
 use Rattle.script.proofs.records.put_number.Tie as tie
-use Rattle.script.proofs.records.put_number.Reads as reads
-use Rattle.script.proofs.records.put_number.Lts as lts
 
 abbrev Inv-loop : tie.InvT-loop
 Inv-loop out₀ at count value v₀ i₀ out v i =

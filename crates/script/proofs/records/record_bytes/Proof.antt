@@ -8,10 +8,6 @@ use Rattle.script.specs.Record.{lowBytes}
 use Rattle.script.proofs.Bytes.{putAt, plain-record}
 use Rattle.script.proofs.records.record_bytes.Statement.{statement}
 use Rattle.script.proofs.records.record_bytes.Tie as tie
-use Rattle.script.proofs.records.record_bytes.Reads as reads
-use Rattle.script.proofs.records.record_bytes.Lts as lts
-use Rattle.script.proofs.records.put_number.Reads as put-number-reads
-use Rattle.script.proofs.records.zeros.Reads as zeros-reads
 
 zeros-requires : tie.Need-zeros-requires
 zeros-requires c κs = search needs

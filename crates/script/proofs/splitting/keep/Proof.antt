@@ -7,8 +7,6 @@ use Rattle.script.specs.Pieces.{keptAll}
 use Rattle.script.proofs.Begun.{pending, all-full, kept-next, kept-end}
 use Rattle.script.proofs.splitting.keep.Statement.{statement}
 use Rattle.script.proofs.splitting.keep.Tie as tie
-use Rattle.script.proofs.splitting.keep.Reads as reads
-use Rattle.script.proofs.splitting.keep.Lts as lts
 
 abbrev Inv-loop : tie.InvT-loop
 Inv-loop part bytes₀ size₀ i₀ bytes size i = (i ≤ length part) × (length bytes ≡ length bytes₀) × (keptAll (pending bytes size) (drop i part) ≡ keptAll (pending bytes₀ size₀) part)

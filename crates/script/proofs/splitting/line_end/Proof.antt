@@ -8,8 +8,6 @@ use Rattle.script.specs.Pieces.{lineEnd}
 use Rattle.script.proofs.Begun.{end-here, end-later, end-none}
 use Rattle.script.proofs.splitting.line_end.Statement.{statement}
 use Rattle.script.proofs.splitting.line_end.Tie as tie
-use Rattle.script.proofs.splitting.line_end.Reads as reads
-use Rattle.script.proofs.splitting.line_end.Lts as lts
 
 abbrev Inv-loop : tie.InvT-loop
 Inv-loop piece i₀ i = (i ≤ length piece) × (i + lineEnd (drop i piece) ≡ lineEnd piece)
