@@ -318,6 +318,77 @@ fn handed_in() {
     );
 }
 
+/// Every two faults at once, in every kind of record, on a bench where two records have counted.
+#[test]
+fn pairs_of_faults() {
+    type Fault = fn(&mut Vec<u8>);
+    const FAULTS: [Fault; 16] = [
+        |_| {},
+        |sent| sent.truncate(39),
+        |sent| sent.push(0),
+        |sent| sent[0] = 0,
+        |sent| sent[0] = 5,
+        |sent| sent[3] = 1,
+        |sent| sent[39] = 128,
+        |sent| sent[1] = 64,
+        |sent| sent[2] = 0,
+        |sent| sent[2] = 255,
+        |sent| sent[16] ^= 1,
+        |sent| sent[33] = 255,
+        |sent| sent[8..16].fill(0),
+        |sent| sent[8] ^= 1,
+        |sent| sent[4] = 2,
+        |sent| sent[4] = 4,
+    ];
+    let mut seen = [0; 12];
+    for variant in 1..=6 {
+        let (mut bench, mut link) = (vec![0; BENCH_LENGTH], vec![0; LINK_LENGTH]);
+        assert_eq!(raw::open(variant, &mut bench, &mut link), 0);
+        let counted = [
+            records::load(1, 5, 100, &[0x5a; 10], 77),
+            records::forward(2, 0x21, 9),
+        ];
+        for sent in &counted {
+            assert_eq!(raw::arrive(&mut bench, &mut link, sent, &mut [0; 3]), 0);
+        }
+        let sound = [
+            records::load(3, 63, 254, &[0xa5; 10], 99),
+            records::forward(3, 0x20, 7),
+            records::back(3, 0x20, 7),
+            records::clear(3, 0x20),
+            counted[1].clone(),
+        ];
+        for record in &sound {
+            for first in FAULTS {
+                for second in FAULTS {
+                    let mut sent = record.clone();
+                    first(&mut sent);
+                    if sent.len() == records::RECORD_LENGTH {
+                        second(&mut sent);
+                    }
+                    let (mut ours, mut theirs) = (
+                        (bench.clone(), link.clone(), [7; 3]),
+                        (bench.clone(), link.clone(), [7; 3]),
+                    );
+                    let got = raw::arrive(&mut ours.0, &mut ours.1, &sent, &mut ours.2);
+                    let expected =
+                        model::arrive(&mut theirs.0, &mut theirs.1, &sent, &mut theirs.2);
+                    assert_eq!(got, expected, "variant {variant}, {sent:02x?}");
+                    assert!(
+                        ours == theirs,
+                        "variant {variant}, {sent:02x?}: memory differs"
+                    );
+                    seen[expected as usize] += 1;
+                }
+            }
+        }
+    }
+    assert!(
+        seen[2..=10].iter().all(|count| *count > 0) && seen[0] > 0,
+        "{seen:?}"
+    );
+}
+
 fn model_answer(bench: &mut katan_model::Bench, call: &Call) -> Answer {
     let refused = |check| Answer::Refused(Refusal::from_number(check).unwrap());
     match call {
@@ -388,23 +459,52 @@ fn fault_of(variant: u8, calls: &[Call]) -> Option<String> {
         .map(|lane| format!("the replay leaves lane {lane} otherwise"))
 }
 
-/// The shortest list found, by leaving out calls, that still goes wrong.
-fn shrunk(variant: u8, mut calls: Vec<Call>) -> Vec<Call> {
+/// The same calls with all records numbered in turn.
+fn renumbered(calls: &[Call]) -> Vec<Call> {
+    let mut number: u32 = 0;
+    let mut calls = calls.to_vec();
+    for call in &mut calls {
+        if let Call::Arrive(sent) = call {
+            if sent.len() == records::RECORD_LENGTH {
+                number += 1;
+                sent[4..8].copy_from_slice(&number.to_le_bytes());
+            }
+        }
+    }
+    calls
+}
+
+/// The list with some calls left out that still goes wrong; as it was where there is none.
+fn shorter(variant: u8, mut calls: Vec<Call>) -> Vec<Call> {
     let mut part = calls.len().div_ceil(2);
     while part > 0 {
         let mut from = 0;
         while from < calls.len() {
             let mut fewer = calls.clone();
             fewer.drain(from..(from + part).min(calls.len()));
-            if fault_of(variant, &fewer).is_some() {
-                calls = fewer;
-            } else {
-                from += part;
+            let in_turn = renumbered(&fewer);
+            match [fewer, in_turn]
+                .into_iter()
+                .find(|list| fault_of(variant, list).is_some())
+            {
+                Some(list) => calls = list,
+                None => from += part,
             }
         }
         part /= 2;
     }
     calls
+}
+
+/// The shortest list found, by leaving out calls, that still goes wrong.
+fn shrunk(variant: u8, mut calls: Vec<Call>) -> Vec<Call> {
+    loop {
+        let length = calls.len();
+        calls = shorter(variant, calls);
+        if calls.len() == length {
+            return calls;
+        }
+    }
 }
 
 fn list(random: &mut Random, variant: u8) -> Vec<Call> {
@@ -439,10 +539,9 @@ fn lists() {
         made += 2 * list.len() as u64;
         if fault_of(variant, &list).is_some() {
             let least = shrunk(variant, list);
-            panic!(
-                "variant {variant}: {:?}\n{least:#04x?}",
-                fault_of(variant, &least)
-            );
+            let fault = fault_of(variant, &least);
+            let lines: Vec<String> = least.iter().map(|call| format!("{call:02x?}")).collect();
+            panic!("variant {variant}: {fault:?}\n{}", lines.join("\n"));
         }
     }
     println!("lists: {made} calls, half of them in replays");
