@@ -16,7 +16,8 @@ use Rattle.answers.specs.declared.Printed.{Printed}
 use Rattle.bench.specs.Bench.{replyAnswer}
 use Rattle.bench.specs.declared.Reply.{Reply}
 use Rattle.bench.specs.declared.Reply.the-variants.{Done, Again, Refused}
-use Rattle.answers.specs.Printed.{lineAs, blockDigits, answerLine, printedAs, room, fits}
+use Rattle.text.specs.Form.{blockDigits}
+use Rattle.answers.specs.Printed.{lineAs, answerLine, printedAs, room, fits}
 
 pub drop-zeros : (k n : ℕ) → drop {A = ℕ} k (replicate n 0) ≡ replicate (n - k) 0
 drop-zeros zero n = rw (sub-zero n)

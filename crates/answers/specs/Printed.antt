@@ -7,10 +7,9 @@ use mathlib.Core.Bool.{Bool, _&&_}
 use lib.Dec.{leb}
 use lib.ListN.{length, take, drop, replicate}
 use Rattle.katan.specs.Bit.{pick}
-use Rattle.katan.specs.Variant.{widthOf}
 use Rattle.katan.specs.Checks.{value, refused}
 use Rattle.bench.specs.Calls.{done, again, at, Answer}
-use Rattle.text.specs.Form.{bytes, fill}
+use Rattle.text.specs.Form.{bytes, fill, blockDigits}
 use Rattle.answers.specs.declared.Printed.{Printed}
 
 abbrev pub lineFeed : ℕ
@@ -19,10 +18,6 @@ lineFeed = 10
 -- a form with its values, and the line feed, where a block has d digits
 abbrev pub lineAs : ℕ → String → List ℕ → List ℕ
 lineAs d form values = fill d (bytes form ++ (lineFeed ∷ [])) values
-
--- blocks have n/4 digits
-abbrev pub blockDigits : ℕ → ℕ
-blockDigits v = widthOf v / 4
 
 -- an accepted bench line's
 unfoldable pub openedLine : ℕ → List ℕ

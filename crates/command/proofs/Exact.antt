@@ -17,7 +17,8 @@ use Rattle.katan.specs.declared.Key.{Key}
 use Rattle.text.specs.Digits.{digit, fixed, place, decimal}
 use Rattle.text.specs.Form.{first, rest, fill, FieldsFit}
 use Rattle.command.specs.Written.{formOf, fieldsOf, written, Fits, lineLength}
-use Rattle.command.specs.Reads.{blockDigits, Open, Stands, KeyHeld, IsLine, Reads}
+use Rattle.text.specs.Form.{blockDigits}
+use Rattle.command.specs.Reads.{Open, Stands, KeyHeld, IsLine, Reads}
 use Rattle.command.specs.Scan.{valueOf, begin, scan, whole}
 use Rattle.command.specs.Reading.{unopened, kindIn, numbered, numberedBy, openingIn, taken, benchIn, readIn, loadIn, forwardIn, backIn, clearIn, commandAs, commandOf, commandIn, front, benchForm, readForm, loadForm, forwardForm, backForm, clearForm}
 use Rattle.command.specs.declared.Command.{Command}

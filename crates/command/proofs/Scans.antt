@@ -20,7 +20,8 @@ use Rattle.command.specs.declared.form.Step.the-variants.{Wrong, Letter,
 use Rattle.command.specs.declared.form.Values.{Values}
 use Rattle.command.specs.declared.form.Fields.{Fields}
 use Rattle.command.proofs.Runs.{Halts}
-use Rattle.command.proofs.Steps.{Found, Halves, length-fixed, length-decimal, pow-pos, stepOf, decimal-sound, digits-sound, words-sound, letter-sound, decimal-complete, digits-complete, letter-complete}
+use Rattle.text.proofs.Lengths.{length-fixed}
+use Rattle.command.proofs.Steps.{Found, Halves, length-decimal, pow-pos, stepOf, decimal-sound, digits-sound, words-sound, letter-sound, decimal-complete, digits-complete, letter-complete}
 
 -- ---- a piece answers with its own kind
 

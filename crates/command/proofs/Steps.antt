@@ -12,6 +12,7 @@ use lib.Seq.{drop-append-seam, drop-drop, drop-at}
 use lib.Pow.{pow-add}
 use borrow.Author.Tests.{lt-ltb, le-ltb, le-leb, lt-leb, ltb-true, ltb-false, leb-true, leb-false, eqb-true, eqb-false, eq-eqb, ne-eqb}
 use Rattle.text.specs.Digits.{digit, fixed, place, decimal, hex}
+use Rattle.text.proofs.Lengths.{length-fixed, ten, place-is}
 use Rattle.katan.specs.Bit.{pick}
 use Rattle.text.specs.Form.{first}
 use Rattle.command.specs.Scan.{valueOf, runIn, decimalOf, decimalIn, wordOf, wordsOf, digitsIn, letterIn}
@@ -25,29 +26,6 @@ pow-pos b k h = one-le-pow k b h
 
 below : (b k w : ℕ) → 0 < b → w / b ^ k ≡ 0 → w < b ^ k
 below b k w h e = rw one-mul at (div-lt-iff-lt-mul {k = b ^ k} {x = w} {y = 1} (pow-pos b k h) .0 (omega arith))
-
-pub length-fixed : (b k n : ℕ) → length (fixed b k n) ≡ k
-unfolding fixed
-length-fixed b zero n = refl
-length-fixed b (suc k) n = ap suc (length-fixed b k n)
-
-pub ten : (i j : ℕ) → i ≤ j → 10 ^ i ≤ 10 ^ j
-ten i j h = pow-le-pow-right {n = 10} (omega arith) h
-
--- the place of a number's leading digit
-pub place-is : (m k n : ℕ) → k ≤ m → (0 < k → 10 ^ k ≤ n) → n < 10 ^ suc k → place m n ≡ k
-unfolding place
-place-is zero k n h low high = omega arith
-place-is (suc m) k n h low high = go (leb (10 ^ suc m) n) (leb k m) refl refl (place-is m k n)
-  where
-    go : (t u : Bool) → leb (10 ^ suc m) n ≡ t → leb k m ≡ u → (k ≤ m → (0 < k → 10 ^ k ≤ n) → n < 10 ^ suc k → place m n ≡ k) → pick t (suc m) (place m n) ≡ k
-    go true true e f ih = absurd (lt-irrefl n (lt-of-lt-of-le high (le-trans (ten (suc k) (suc m) (omega (arith, leb-true k m f))) (leb-true _ _ e))))
-    go true false e f ih = omega (arith, leb-false k m f)
-    go false true e f ih = ih (leb-true _ _ f) low high
-    go false false e f ih =
-        let x : suc m ≡ k = omega (arith, leb-false k m f) in
-        let y : 10 ^ suc m ≤ n = subst (λ (z : ℕ). 10 ^ z ≤ n) (sym x) (low (omega arith)) in
-        absurd (lt-irrefl n (lt-of-lt-of-le (leb-false _ _ e) y))
 
 place-low : (m n : ℕ) → 0 < place m n → 10 ^ place m n ≤ n
 unfolding place

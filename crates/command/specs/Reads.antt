@@ -5,16 +5,12 @@ use mathlib.Core.Path.{_≡_}
 use mathlib.Core.Bool.{Bool, true, false}
 use mathlib.Core.List.{List}
 use lib.ListN.{length}
-use Rattle.katan.specs.Variant.{widthOf}
+use Rattle.text.specs.Form.{blockDigits}
 use Rattle.command.specs.Written.{written, Fits, lineLength}
 use Rattle.command.specs.declared.Command.{Command}
 use Rattle.command.specs.declared.Command.the-variants.{Bench, Read, Load, Forward, Back, Clear}
 use Rattle.command.specs.declared.Line.{Line}
 use Rattle.command.specs.declared.Line.the-variants.{Taken, Broken}
-
--- blocks have n/4 digits
-abbrev pub blockDigits : ℕ → ℕ
-blockDigits v = widthOf v / 4
 
 -- a bench is open: one of variant 1 to 6
 abbrev pub Open : ℕ → Type 0

@@ -1,4 +1,3 @@
-mod Numbers
 mod Turns
 mod Words
 mod Statuses

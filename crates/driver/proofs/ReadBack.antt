@@ -18,9 +18,10 @@ use Rattle.bench.specs.declared.Bench.{Bench}
 use Rattle.bench.specs.declared.Link.{Link}
 use Rattle.bench.specs.Bench.{keyOf}
 use Rattle.bench.proofs.Loops.{key-is}
-use Rattle.driver.specs.Layout.{laneLength, loadedIn, laneIn, slotsIn, benchIn, linkIn, bytesOf, loadedBytes, laneBytes, slotBytes, benchBytes, linkBytes}
+use Rattle.katan.specs.Bit.{bytesOf}
+use Rattle.driver.specs.Layout.{laneLength, loadedIn, laneIn, slotsIn, benchIn, linkIn, loadedBytes, laneBytes, slotBytes, benchBytes, linkBytes}
 use Rattle.driver.specs.ReadBack.{LaneFits, SlotsFit, BenchReadBack, LinkReadBack}
-use Rattle.driver.proofs.Numbers.{length-bytes, number-bytes}
+use Rattle.katan.proofs.Numbers.{length-bytes, number-bytes}
 
 -- a number before other bytes
 number-first : (n x : ℕ) (rest : List ℕ) → x < 2 ^ (8 * n) → numberIn (take n (bytesOf n x ++ rest)) ≡ x

@@ -10,7 +10,8 @@ use lib.Seq.{drop-cons, drop-drop, take-all, take-suc-set, length-take-le, take-
 use Rattle.bench.specs.declared.Lane.{Lane}
 use Rattle.bench.specs.declared.Slot.{Slot}
 use Rattle.bench.specs.Bench.{emptySlot}
-use Rattle.driver.specs.Layout.{laneLength, laneIn, slotsIn, bytesOf, laneBytes, slotBytes}
+use Rattle.katan.specs.Bit.{bytesOf}
+use Rattle.driver.specs.Layout.{laneLength, laneIn, slotsIn, laneBytes, slotBytes}
 
 -- the elements from a on, k of them, are written anew
 module _ (a k : ℕ) (xs ys : List ℕ) (h : a ≤ length xs) (l : length ys ≡ k) where

@@ -4,7 +4,7 @@ use Prim.Native.Nat.{ℕ, zero, suc, _+_, _*_, _/_, _%_, _^_}
 use mathlib.Core.List.{List, [], _∷_, _++_}
 use lib.Dec.{eqb}
 use lib.ListN.{getD, set, take, drop}
-use Rattle.katan.specs.Bit.{pick}
+use Rattle.katan.specs.Bit.{pick, bytesOf}
 use Rattle.katan.specs.Key.{keyNumber}
 use Rattle.katan.specs.Sizes.{laneCount, keyBytes}
 use Rattle.record.specs.Fields.{recordLength, part}
@@ -61,11 +61,6 @@ unfoldable pub linkIn : List ℕ → Link
 linkIn s = record { last = part s 0 4; total = part s 4 4; bytes = take recordLength (drop recordStart s) }
 
 -- ---- the bytes that say it
-
--- the number x in n bytes
-unfoldable pub bytesOf : (n x : ℕ) → List ℕ
-bytesOf zero x = []
-bytesOf (suc n) x = x % 2 ^ 8 ∷ bytesOf n (x / 2 ^ 8)
 
 unfoldable pub loadedBytes : Loaded → List ℕ
 loadedBytes h = 1 ∷ h .position .0 ∷ bytesOf keyBytes (keyNumber (h .key)) ++ bytesOf 8 (h .registers)

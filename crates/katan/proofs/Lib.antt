@@ -2,6 +2,7 @@ pub mod Bits
 pub mod Tables
 pub mod Fill
 pub mod Bytes
+pub mod Numbers
 pub mod Variants
 pub mod Keys
 pub mod Shift

@@ -33,3 +33,8 @@ AreBytes xs = (j : ℕ) → getD xs j 0 < 2 ^ 8
 abbrev pub numberIn : List ℕ → ℕ
 numberIn [] = 0
 numberIn (x ∷ xs) = numberIn xs * 2 ^ 8 + x
+
+-- the number x in n bytes, low byte first
+unfoldable pub bytesOf : (n x : ℕ) → List ℕ
+bytesOf zero x = []
+bytesOf (suc n) x = x % 2 ^ 8 ∷ bytesOf n (x / 2 ^ 8)

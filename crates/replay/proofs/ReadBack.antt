@@ -9,14 +9,16 @@ use lib.ListN.{length, getD, take, drop, length-append}
 use lib.Seq.{take-append-seam, drop-append-seam}
 use Rattle.katan.specs.Bit.{numberIn}
 use Rattle.bench.specs.Calls.{Call, arrival, reading}
-use Rattle.replay.specs.Encoding.{callNumber, callSize, isCall, firstCall, callsIn, bytesOf, answerLength, fits}
+use Rattle.katan.specs.Bit.{bytesOf}
+use Rattle.katan.proofs.Numbers.{number-bytes}
+use Rattle.replay.specs.Encoding.{callNumber, callSize, isCall, firstCall, callsIn, answerLength, fits}
 use Rattle.replay.specs.Written.{headNumber, callBytes, listBytes, EveryListWritten}
 use Rattle.replay.proofs.Parsing.{size-arrival, size-other, whole-arrival, whole-read, fits-on, fits-end}
 use Rattle.replay.proofs.Running.{calls-on, no-calls, first-arrival, first-reading}
 
 -- 4 bytes hold a number below 2^32
 four-bytes : (n : ℕ) → n < 2 ^ 32 → numberIn (bytesOf 4 n) ≡ n
-four-bytes n h = omega arith
+four-bytes n h = number-bytes 4 n h
 
 -- a call that comes first
 record First (c : Call) (s : List ℕ) : Type 0 where
@@ -26,6 +28,7 @@ record First (c : Call) (s : List ℕ) : Type 0 where
   call : firstCall s ≡ c
 
 first : (c : Call) (rest : List ℕ) → headNumber c < 2 ^ 32 → First c (callBytes c ++ rest)
+unfolding bytesOf
 first (arrival r) rest h =
     let s = callBytes (arrival r) ++ rest in
     let n : callNumber s ≡ length r = four-bytes (length r) h in

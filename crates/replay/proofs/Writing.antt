@@ -16,10 +16,13 @@ use Rattle.bench.specs.declared.Reply.the-variants.{Done, Again, Refused}
 use Rattle.bench.specs.declared.ReadAnswer.{ReadAnswer}
 use Rattle.bench.specs.declared.ReadAnswer.the-variants.{At, Refused as ReadRefused}
 use Rattle.bench.specs.Bench.{replyAnswer, readingAnswer}
-use Rattle.replay.specs.Encoding.{bytesOf, answerLength, answerFields, answerBytes}
+use Rattle.katan.specs.Bit.{bytesOf}
+use Rattle.katan.proofs.Numbers.{length-bytes}
+use Rattle.replay.specs.Encoding.{answerLength, answerFields, answerBytes}
 use Rattle.replay.specs.Steps.{overwritten}
 
 bytes-suc : (m n x : ℕ) → n ≡ suc m → bytesOf n x ≡ x % 2 ^ 8 ∷ bytesOf m (x / 2 ^ 8)
+unfolding bytesOf
 bytes-suc m n x e = rw e
 
 -- one turn of the loop, with x what is left of the number
@@ -29,17 +32,13 @@ number-on out n i x h g =
     let e : n - i ≡ suc (n - (i + 1)) = omega arith in
     rw (add-one, take-suc-set out i (x % 2 ^ 8) g, append-assoc, bytes-suc (n - (i + 1)) (n - i) x e, add-one)
 
-pub bytes-length : (n x : ℕ) → length (bytesOf n x) ≡ n
-bytes-length zero x = refl
-bytes-length (suc n) x = ap suc (bytes-length n (x / 2 ^ 8))
-
 pub number-end : (out old : List ℕ) (at n i rest x : ℕ) → i ≡ at + n → take i out ++ bytesOf (at + n - i) rest ≡ take at old ++ bytesOf n x
     → drop (at + n) out ≡ drop (at + n) old → out ≡ overwritten old at (bytesOf n x)
-unfolding overwritten
+unfolding overwritten bytesOf
 number-end out old at n i rest x h e d =
     let z : at + n - i ≡ 0 = omega arith in
     let f = sym (append-nil (take i out)) ∙ ap (λ (m : ℕ). take i out ++ bytesOf m rest) (sym z) ∙ e in
-    rw (bytes-length n x) (sym (take-append-drop (at + n) out) ∙ ap₂ _++_ (ap (λ (m : ℕ). take m out) (sym h) ∙ f) d)
+    rw (length-bytes n x) (sym (take-append-drop (at + n) out) ∙ ap₂ _++_ (ap (λ (m : ℕ). take m out) (sym h) ∙ f) d)
 
 -- ---- one thing written after another
 
@@ -75,13 +74,14 @@ set-over out i x h = simp (set-split out i x h, append-assoc, add-one)
 -- the three fields, each after the one before
 module _ (out : List ℕ) (i kind first second : ℕ) (h : i + answerLength ≤ length out) where
   pub first-put : {a : List ℕ} → a ≡ overwritten (set out i kind) (i + 1) (bytesOf 4 first) → length a ≡ length out
+  unfolding bytesOf
   first-put e =
       let l = set out i kind in
       ap length e ∙ length-over l (i + 1) (bytesOf 4 first) 4 refl (rw (length-set out i kind) (omega arith)) ∙ length-set out i kind
 
   pub fields-put : {a b : List ℕ} → a ≡ overwritten (set out i kind) (i + 1) (bytesOf 4 first) → b ≡ overwritten a (i + 5) (bytesOf 8 second)
       → b ≡ overwritten out i (answerFields kind first second)
-  unfolding answerFields
+  unfolding answerFields bytesOf
   fields-put d e =
       let g : i ≤ length out = omega arith in
       let l : i < length out = omega arith in
@@ -91,7 +91,7 @@ module _ (out : List ℕ) (i kind first second : ℕ) (h : i + answerLength ≤ 
       ∙ over-over out i ((kind ∷ []) ++ bytesOf 4 first) (i + 5) (bytesOf 8 second) refl g
 
 pub fields-length : (kind first second : ℕ) → length (answerFields kind first second) ≡ answerLength
-unfolding answerFields
+unfolding answerFields bytesOf
 fields-length kind first second = refl
 
 -- ---- the fields of each answer

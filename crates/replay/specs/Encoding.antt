@@ -5,7 +5,7 @@ use mathlib.Core.Bool.{Bool, true, _&&_, _||_}
 use mathlib.Core.List.{List, [], _∷_, _++_, map}
 use lib.Dec.{eqb, leb}
 use lib.ListN.{length, getD, take, drop}
-use Rattle.katan.specs.Bit.{pick}
+use Rattle.katan.specs.Bit.{pick, bytesOf}
 use Rattle.katan.specs.Checks.{value, refused}
 use Rattle.record.specs.Fields.{part}
 use Rattle.bench.specs.Calls.{Call, arrival, reading, done, again, at, Answer}
@@ -54,11 +54,6 @@ all f [] = true
 all f (x ∷ xs) = f x && all f xs
 
 -- ---- the answers
-
--- the number x in n bytes
-abbrev pub bytesOf : (n x : ℕ) → List ℕ
-bytesOf zero x = []
-bytesOf (suc n) x = x % 2 ^ 8 ∷ bytesOf n (x / 2 ^ 8)
 
 -- An answer takes 13 bytes: in byte 0 its kind, 1 'done', 2 'again', 3 a read's, 4 a refusal; in bytes 1 to 4 a number, position or refusal's number; in
 -- bytes 5 to 12 a total or registers, and 0 for a refusal.

@@ -6,7 +6,8 @@ use mathlib.Core.Bool.{true}
 use mathlib.Core.List.{List, [], _∷_, _++_}
 use lib.ListN.{length}
 use Rattle.bench.specs.Calls.{Call, arrival, reading}
-use Rattle.replay.specs.Encoding.{callsIn, bytesOf, answerLength, fits}
+use Rattle.katan.specs.Bit.{bytesOf}
+use Rattle.replay.specs.Encoding.{callsIn, answerLength, fits}
 
 -- the number in a call's head
 abbrev pub headNumber : Call → ℕ

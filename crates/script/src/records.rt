@@ -4,7 +4,8 @@ ghost use mathlib.Core.List.{[], _∷_, _++_};
 ghost use Prim.Native.Nat.{_+_, _≤_};
 ghost use lib.ListN.{length, take, drop, replicate};
 ghost use Rattle.katan.specs.Key.{keyNumber};
-ghost use Rattle.script.specs.Record.{lowBytes, recordBytes};
+ghost use Rattle.katan.specs.Bit.{bytesOf};
+ghost use Rattle.script.specs.Record.{recordBytes};
 use katan::Key;
 use record::LENGTH;
 
@@ -17,7 +18,7 @@ fn zeros() -> [u8; LENGTH]
 // `count` bytes of a number, low byte first, from `at` on.
 fn put_number(out: &mut [u8], at: usize, count: usize, value: u64)
     requires { ⌜ at + count ≤ length (now out) ⌝ }
-    ensures { λ _. ⌜ now (out .exit) ≡ take at (now (out .entry)) ++ (lowBytes count value ++ drop (at + count) (now (out .entry))) ⌝ }
+    ensures { λ _. ⌜ now (out .exit) ≡ take at (now (out .entry)) ++ (bytesOf count value ++ drop (at + count) (now (out .entry))) ⌝ }
 {
     let mut v = value;
     let mut i: usize = 0;

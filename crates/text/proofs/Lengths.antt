@@ -30,10 +30,11 @@ div-step b k n = simp pow-suc (sym (div-div-eq-div-mul n (b ^ k) b))
 some-power : (b k : ℕ) → 0 < b → 0 < b ^ k
 some-power b k h = one-le-pow k b h
 
-ten : (i j : ℕ) → i ≤ j → 10 ^ i ≤ 10 ^ j
+pub ten : (i j : ℕ) → i ≤ j → 10 ^ i ≤ 10 ^ j
 ten i j h = pow-le-pow-right {n = 10} (omega arith) h
 
-place-is : (m k n : ℕ) → k ≤ m → (0 < k → 10 ^ k ≤ n) → n < 10 ^ suc k → place m n ≡ k
+-- the place of a number's leading digit
+pub place-is : (m k n : ℕ) → k ≤ m → (0 < k → 10 ^ k ≤ n) → n < 10 ^ suc k → place m n ≡ k
 unfolding place
 place-is zero k n h low high = omega arith
 place-is (suc m) k n h low high = go (leb (10 ^ suc m) n) (leb k m) refl refl (place-is m k n)

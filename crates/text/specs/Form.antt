@@ -4,13 +4,14 @@
 --     *   a block, as many hexadecimal digits as the open bench's blocks have
 -- Any other byte stands for itself.
 -- Assumes nothing.
-use Prim.Native.Nat.{ℕ, _≤_, _<_, _^_}
+use Prim.Native.Nat.{ℕ, _≤_, _<_, _^_, _/_}
 use Prim.Native.Char.{Char, code}
 use Prim.Native.String as Str
 use Prim.Native.String.{String}
 use mathlib.Core.List.{List, [], _∷_, _++_}
 use lib.Dec.{eqb}
 use Rattle.katan.specs.Bit.{pick}
+use Rattle.katan.specs.Variant.{widthOf}
 use Rattle.text.specs.Digits.{decimal, hex}
 
 -- the bytes of a text
@@ -60,3 +61,7 @@ fitsPiece (digits count) vs more = (first vs < 16 ^ count) × more (rest vs)
 abbrev pub FieldsFit : ℕ → List ℕ → List ℕ → Type 0
 FieldsFit d [] vs = Unit {0}
 FieldsFit d (p ∷ ps) vs = fitsPiece (pieceOf d p) vs (λ (ws : List ℕ). FieldsFit d ps ws)
+
+-- blocks have n/4 digits
+abbrev pub blockDigits : ℕ → ℕ
+blockDigits v = widthOf v / 4

@@ -5,7 +5,7 @@ use Prim.Native.Nat.{ℕ}
 use Rattle.katan.specs.declared.Row.{Row}
 use Rattle.katan.proofs.Variants.{row-found, row-refused}
 use Rattle.record.proofs.Fields.{no-variant}
-use Rattle.answers.specs.Printed.{blockDigits}
+use Rattle.text.specs.Form.{blockDigits}
 use Rattle.answers.proofs.Lines.{few-digits}
 use Rattle.answers.proofs.block_digits.Statement.{statement}
 use Rattle.answers.proofs.block_digits.Tie as tie

@@ -2,7 +2,7 @@ use mathlib.Core.Path.{refl, _∙_}
 use native.Mathlib.Omega.{arith}
 use Rattle.record.proofs.Parts.{part-of, number-below}
 use Rattle.driver.specs.Layout.{linkIn}
-use Rattle.driver.proofs.Numbers.{bytes-below}
+use Rattle.katan.proofs.Numbers.{bytes-below}
 use borrow.Author.Needs.{needs}
 use Rattle.driver.proofs.layout.link_in.Statement.{statement}
 use Rattle.driver.proofs.layout.link_in.Tie as tie

@@ -2,8 +2,8 @@ use mathlib.Core.Path.{ap, sym, _∙_}
 use mathlib.Core.List.{List, _++_}
 use Prim.Native.Nat.{ℕ}
 use lib.ListN.{length}
-use Rattle.driver.specs.Layout.{bytesOf}
-use Rattle.driver.proofs.Numbers.{length-bytes, two-numbers}
+use Rattle.katan.specs.Bit.{bytesOf}
+use Rattle.katan.proofs.Numbers.{length-bytes, two-numbers}
 use Rattle.driver.proofs.Turns.{two-parts}
 use borrow.Author.Needs.{needs}
 use Rattle.driver.proofs.layout.put_key.Statement.{statement}

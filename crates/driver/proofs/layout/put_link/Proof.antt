@@ -3,7 +3,7 @@ use mathlib.Core.List.{List, _++_}
 use Prim.Native.Nat.{ℕ}
 use lib.ListN.{length}
 use Rattle.driver.specs.Layout.{linkBytes}
-use Rattle.driver.proofs.Numbers.{length-bytes}
+use Rattle.katan.proofs.Numbers.{length-bytes}
 use Rattle.driver.proofs.Turns.{three-parts}
 use borrow.Author.Needs.{needs}
 use Rattle.driver.proofs.layout.put_link.Statement.{statement}

@@ -5,7 +5,7 @@ use lib.ListN.{length}
 use Rattle.katan.specs.Key.{keyNumber}
 use Rattle.katan.specs.Sizes.{keyBytes}
 use Rattle.driver.specs.Layout.{loadedBytes}
-use Rattle.driver.proofs.Numbers.{length-bytes}
+use Rattle.katan.proofs.Numbers.{length-bytes}
 use Rattle.driver.proofs.Turns.{three-parts}
 use borrow.Author.Needs.{needs}
 use Rattle.driver.proofs.layout.put_loaded.Statement.{statement}

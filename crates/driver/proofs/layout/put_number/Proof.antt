@@ -4,7 +4,7 @@ use Prim.Native.Nat.{ℕ, _+_, _-_, _≤_, _<_}
 use native.Mathlib.Omega.{arith}
 use lib.ListN.{length, take, length-set}
 use lib.Seq.{take-all}
-use Rattle.driver.specs.Layout.{bytesOf}
+use Rattle.katan.specs.Bit.{bytesOf}
 use Rattle.driver.proofs.Turns.{number-on}
 use Rattle.driver.proofs.layout.put_number.Statement.{statement}
 use Rattle.driver.proofs.layout.put_number.Tie as tie

@@ -6,7 +6,7 @@ use native.Mathlib.Omega.{arith}
 use lib.ListN.{length, length-set, take, drop}
 use lib.Seq.{drop-set-lt}
 use borrow.Author.Needs.{needs}
-use Rattle.replay.specs.Encoding.{bytesOf}
+use Rattle.katan.specs.Bit.{bytesOf}
 use Rattle.replay.proofs.Writing.{number-on, number-end}
 use Rattle.replay.proofs.answers.write_number.Statement.{statement}
 use Rattle.replay.proofs.answers.write_number.Tie as tie

@@ -1,7 +1,7 @@
 use borrow.Author.Needs.{needs}
 use mathlib.Core.Path.{ap, _∙_}
 use native.Mathlib.Omega.{arith}
-use Rattle.script.specs.Record.{lowBytes}
+use Rattle.katan.specs.Bit.{bytesOf}
 use Rattle.script.proofs.Bytes.{putAt, loaded-record}
 use Rattle.script.proofs.records.load_record.Statement.{statement}
 use Rattle.script.proofs.records.load_record.Tie as tie
@@ -35,10 +35,10 @@ returns c =
     let s = c .before .before .before .before .before .before .before .before .before .before in
     let a = s .before .args in
     c .before .put-number3 .ensures
-    ∙ ap (putAt 26 34 (lowBytes 8 (a .block)))
+    ∙ ap (putAt 26 34 (bytesOf 8 (a .block)))
     (c .before .before .before .before .put-number2 .ensures
-    ∙ ap (putAt 24 26 (lowBytes 2 (a .key .high)))
-    (c .before .before .before .before .before .before .before .before .put-number .ensures ∙ ap (putAt 16 24 (lowBytes 8 (a .key .low))) (s .record-bytes .ensures)))
+    ∙ ap (putAt 24 26 (bytesOf 2 (a .key .high)))
+    (c .before .before .before .before .before .before .before .before .put-number .ensures ∙ ap (putAt 16 24 (bytesOf 8 (a .key .low))) (s .record-bytes .ensures)))
     ∙ loaded-record (a .lane) (a .position) (a .number) (a .key .low) (a .key .high) (a .block) (search needs)
 
 pub load-record-spec : {M : Type 1} → statement M

@@ -5,7 +5,7 @@ use mathlib.Core.List.{_++_}
 use native.Mathlib.Nat.{sub-zero, add-zero}
 use native.Mathlib.Omega.{arith}
 use lib.ListN.{length, take, drop, length-set}
-use Rattle.script.specs.Record.{lowBytes}
+use Rattle.katan.specs.Bit.{bytesOf}
 use Rattle.script.proofs.Bytes.{put-before, put-after, put-end}
 use Rattle.script.proofs.records.put_number.Statement.{statement}
 use Rattle.script.proofs.records.put_number.Tie as tie
@@ -13,7 +13,7 @@ use Rattle.script.proofs.records.put_number.Tie as tie
 abbrev Inv-loop : tie.InvT-loop
 Inv-loop out₀ at count value v₀ i₀ out v i =
     (i ≤ count) × (length out ≡ length out₀)
-    × (take (at + i) out ++ lowBytes (count - i) v ≡ take at out₀ ++ lowBytes count value) × (drop (at + i) out ≡ drop (at + i) out₀)
+    × (take (at + i) out ++ bytesOf (count - i) v ≡ take at out₀ ++ bytesOf count value) × (drop (at + i) out ≡ drop (at + i) out₀)
 
 abbrev μ-loop : tie.MeasureT-loop
 μ-loop out₀ at count value v₀ i₀ out v i = count - i
@@ -40,7 +40,7 @@ loop-again : tie.Need-loop-again Inv-loop μ-loop
 loop-again c =
     let a = c .before .before .args in
     let l = c .before .loop in
-    let whole = take (a .at) (a .out .now) ++ lowBytes (a .count) (a .value) in (
+    let whole = take (a .at) (a .out .now) ++ bytesOf (a .count) (a .value) in (
       omega arith,
       simp length-set (l .inv .1),
       put-before (l .out) (a .out .now) whole (a .at) (a .count) (l .i) (l .v) (c .loop-test .taken) (omega arith) (l .inv .2),
@@ -54,7 +54,7 @@ returns : tie.Need-returns Inv-loop μ-loop
 returns c =
     let a = c .before .before .args in
     let l = c .before .loop in
-    put-end (l .out) (a .out .now) (lowBytes (a .count) (a .value)) (a .at) (a .count) (l .i) (l .v) (c .loop-test .left) (l .inv .0) (l .inv .2) (l .inv .3)
+    put-end (l .out) (a .out .now) (bytesOf (a .count) (a .value)) (a .at) (a .count) (l .i) (l .v) (c .loop-test .left) (l .inv .0) (l .inv .2) (l .inv .3)
 
 pub put-number-spec : {M : Type 1} → statement M
 put-number-spec =

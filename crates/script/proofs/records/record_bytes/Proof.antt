@@ -4,7 +4,7 @@ use mathlib.Core.List.{List}
 use Prim.Native.Nat.{ℕ}
 use lib.Dec.{lit≤}
 use lib.ListN.{set}
-use Rattle.script.specs.Record.{lowBytes}
+use Rattle.katan.specs.Bit.{bytesOf}
 use Rattle.script.proofs.Bytes.{putAt, plain-record}
 use Rattle.script.proofs.records.record_bytes.Statement.{statement}
 use Rattle.script.proofs.records.record_bytes.Tie as tie
@@ -37,9 +37,9 @@ returns : tie.Need-returns
 returns c =
     let a = c .before .before .before .before .before .before .before .args in
     c .before .put-number2 .ensures
-    ∙ ap (putAt 8 16 (lowBytes 8 (a .mask)))
+    ∙ ap (putAt 8 16 (bytesOf 8 (a .mask)))
     (c .before .before .before .before .put-number .ensures
-    ∙ ap (λ (z : List ℕ). putAt 4 8 (lowBytes 4 (a .number)) (set (set (set z 0 (a .kind)) 1 (a .lane)) 2 (a .count))) (c .before .before .before .before .before .before .zeros .ensures))
+    ∙ ap (λ (z : List ℕ). putAt 4 8 (bytesOf 4 (a .number)) (set (set (set z 0 (a .kind)) 1 (a .lane)) 2 (a .count))) (c .before .before .before .before .before .before .zeros .ensures))
     ∙ plain-record (a .kind) (a .lane) (a .count) (a .number) (a .mask)
 
 pub record-bytes-spec : {M : Type 1} → statement M

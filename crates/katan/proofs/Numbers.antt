@@ -7,8 +7,7 @@ use native.Mathlib.Nat.{mul-assoc}
 use native.Mathlib.Omega.{arith}
 use lib.ListN.{length, take}
 use lib.Pow.{pow-add, pow-pos}
-use Rattle.katan.specs.Bit.{numberIn, AreBytes}
-use Rattle.driver.specs.Layout.{bytesOf}
+use Rattle.katan.specs.Bit.{numberIn, bytesOf, AreBytes}
 
 pub length-bytes : (n x : ℕ) → length (bytesOf n x) ≡ n
 unfolding bytesOf
