@@ -1,8 +1,8 @@
 // Works random batches of every length, both ways, for each variant, and compares each result with a call for its block alone;
 // then calls that are refused. A line for each batch and call, with all outputs in one number.
-use cipher::Answer;
 use lanes::Direction;
 use libc::STDOUT_FILENO;
+use registers::Answer;
 ghost use Prim.Native.Nat.{_*_, _<_, _≤_};
 ghost use lib.ListN.{length};
 

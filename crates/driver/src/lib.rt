@@ -4,7 +4,7 @@ ghost use mathlib.Core.Path.{_≡_};
 ghost use mathlib.Core.List.{[], _∷_};
 ghost use lib.ListN.{length};
 ghost use Rattle.katan.specs.Checks.{variantCheck};
-ghost use Rattle.cipher.specs.Answers.{outcome as blockOutcome};
+ghost use Rattle.registers.specs.Answers.{outcome as blockOutcome};
 ghost use Rattle.lanes.specs.Many.{outcome as manyOutcome, manyAnswer, manyOf};
 ghost use Rattle.lanes.specs.declared.Direction.the-variants.{Encrypt, Decrypt};
 ghost use Rattle.rate.specs.Rate.{cyclesOf, rateOutcome};
@@ -47,17 +47,17 @@ fn bad_variant(variant: u8) -> bool
 }
 
 // A block into the one word that is lent for it.
-fn put_block(answer: cipher::Answer, out: &mut [u64]) -> u8
+fn put_block(answer: registers::Answer, out: &mut [u64]) -> u8
     requires { ⌜ length (now out) ≡ 1 ⌝ }
     ensures { λ r. ⌜ r ≡ statusOf (blockOutcome answer) ⌝ }
     ensures { λ r. ⌜ now (out .exit) ≡ written word (blockOutcome answer) (now (out .entry)) ⌝ }
 {
     match answer {
-        cipher::Answer::Block(x) => {
+        registers::Answer::Block(x) => {
             out[0] = x;
             ACCEPTED
         }
-        cipher::Answer::Refused(r) => katan::refusal_number(r),
+        registers::Answer::Refused(r) => katan::refusal_number(r),
     }
 }
 

@@ -13,9 +13,9 @@ use Rattle.katan.specs.Key.{keyNumber}
 use Rattle.katan.specs.Machine.{registersAt}
 use Rattle.katan.specs.Checks.{value, variantCheck, positionCheck, blockCheck}
 use Rattle.katan.proofs.Positions.{at-load}
-use Rattle.cipher.specs.Answers.{outcome, registersAnswer}
-use Rattle.cipher.specs.declared.Answer.{Answer}
-use Rattle.cipher.specs.declared.Answer.the-variants.{Block, Refused}
+use Rattle.registers.specs.Answers.{outcome, registersAnswer}
+use Rattle.registers.specs.declared.Answer.{Answer}
+use Rattle.registers.specs.declared.Answer.the-variants.{Block, Refused}
 use Rattle.katan.specs.declared.Refusal.{Refusal}
 use Rattle.bench.specs.declared.Loaded.{Loaded}
 use Rattle.bench.specs.declared.Lane.{Lane}

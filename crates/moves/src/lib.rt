@@ -9,9 +9,9 @@ use bench::Bench;
 use bench::Lane;
 use bench::Loaded;
 use bench::Slot;
-use cipher::Answer;
 use katan::LANES;
 use katan::RoundPosition;
+use registers::Answer;
 
 // What a record does to each lane that it names.
 pub enum Motion {
@@ -62,7 +62,7 @@ fn carried(variant: u8, h: Loaded, to: u8) -> Loaded
     if from.0 == to {
         return h;
     }
-    match cipher::registers_at(variant, key, from, RoundPosition(to), h.registers) {
+    match registers::registers_at(variant, key, from, RoundPosition(to), h.registers) {
         Answer::Block(x) => Loaded {
             key: key,
             position: RoundPosition(to),

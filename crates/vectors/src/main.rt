@@ -17,12 +17,12 @@ use bench::Bench;
 use bench::Link;
 use bench::ReadAnswer;
 use bench::Reply;
-use cipher::Answer;
 use katan::Key;
 use katan::Refusal;
 use katan::RoundPosition;
 use libc::STDIN_FILENO;
 use libc::STDOUT_FILENO;
+use registers::Answer;
 use stepping::OpenAnswer;
 ghost use mathlib.Core.Path.{_≡_};
 ghost use Prim.Native.Nat.{_≤_};
@@ -261,7 +261,7 @@ fn registers_line(line: &[u8], variant: u8, key: Bytes, from_field: Field) -> Ou
         && last.end == line.len()
         && key.digits == 20
     {
-        Outcome::Answered(cipher::registers_at(
+        Outcome::Answered(registers::registers_at(
             variant,
             key_of(bytes),
             RoundPosition((from.value % 256) as u8),
