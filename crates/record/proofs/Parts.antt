@@ -1,30 +1,27 @@
--- The parts of a record that are numbers: how large they are, and of which byte each bit is.
+-- The bytes of a record, and its parts that are numbers: how large they are, and of which byte each bit is.
 -- Assumes nothing.
-use mathlib.Core.Path.{_≡_, ap, _∙_}
+use mathlib.Core.Path.{_≡_, refl, sym, ap, _∙_}
 use mathlib.Core.List.{List, [], _∷_}
 use Prim.Native.Nat.{ℕ, zero, suc, _+_, _*_, _^_, _<_, _≤_}
 use native.Mathlib.Nat.{min-le-left}
 use native.Mathlib.Omega.{arith}
 use lib.ListN.{length, getD, take, drop, length-take}
-use lib.Pow.{pow-add, pow-pos}
 use lib.Seq.{take-all, getD-take, getD-drop}
 use Rattle.katan.specs.Bit.{bit, numberIn, AreBytes}
 use Rattle.katan.proofs.Bytes.{number-bit}
-use Rattle.record.specs.Fields.{part, number, mask, key, block}
+use Rattle.katan.proofs.Fill.{full}
+use Rattle.katan.proofs.Numbers.{bytes-below}
+use Rattle.record.specs.Fields.{recordLength, recordIn, part, number, mask, key, block}
+
+pub whole-record : (s : List ℕ) → length s ≡ recordLength → recordIn s ≡ s
+unfolding recordIn
+whole-record s e = sym (full (λ (i : ℕ). getD s i 0) recordLength s e (λ i q. refl))
 
 take-bytes : (n : ℕ) (xs : List ℕ) → AreBytes xs → AreBytes (take n xs)
 take-bytes zero xs h j = omega arith
 take-bytes (suc n) [] h j = h j
 take-bytes (suc n) (x ∷ xs) h zero = h zero
 take-bytes (suc n) (x ∷ xs) h (suc j) = take-bytes n xs (λ i. h (suc i)) j
-
-number-lt : (n : ℕ) (xs : List ℕ) → AreBytes xs → numberIn (take n xs) < 2 ^ (8 * n)
-number-lt zero xs h = omega arith
-number-lt (suc n) [] h = pow-pos (8 * suc n)
-number-lt (suc n) (x ∷ xs) h =
-    let p : 8 * suc n ≡ 8 * n + 8 = omega arith in
-    let e : 2 ^ (8 * suc n) ≡ 2 ^ (8 * n) * 2 ^ 8 = ap (λ (y : ℕ). 2 ^ y) p ∙ pow-add 2 (8 * n) 8 in
-    omega (arith, e, number-lt n xs (λ i. h (suc i)), h 0)
 
 -- a part read from no more bytes than it has
 pub part-of : (m a n : ℕ) (s : List ℕ) {t : List ℕ} → t ≡ take n (drop a s) → n ≤ m → numberIn (take m t) ≡ part s a n
@@ -37,7 +34,7 @@ module _ (s : List ℕ) (h : AreBytes s) where
   drop-bytes a j = rw (getD-drop a s j 0) (h (a + j))
 
   part-lt : (a n : ℕ) → part s a n < 2 ^ (8 * n)
-  part-lt a n = number-lt n (drop a s) (drop-bytes a)
+  part-lt a n = bytes-below n (drop a s) (drop-bytes a)
 
   -- bit 8 j + b of a part is bit b of its byte j
   part-bit : (a n j b : ℕ) → j < n → b < 8 → bit (part s a n) (8 * j + b) ≡ bit (getD s (a + j) 0) b

@@ -7,11 +7,15 @@ use mathlib.Core.List.{List, [], _∷_}
 use mathlib.Core.Bool.{Bool, true, false, _&&_}
 use lib.Dec.{eqb, ltb}
 use lib.ListN.{getD, take, drop}
-use Rattle.katan.specs.Bit.{bit, pick, numberIn}
+use Rattle.katan.specs.Bit.{bit, pick, tabulate, numberIn}
 use Rattle.katan.specs.Sizes.{keyBytes}
 
 abbrev pub recordLength : ℕ
 recordLength = 40
+
+-- the bytes of the record that a list starts with
+unfoldable pub recordIn : List ℕ → List ℕ
+recordIn s = tabulate (λ i. getD s i 0) 0 recordLength
 
 -- the number in n bytes from byte a on
 abbrev pub part : List ℕ → ℕ → ℕ → ℕ

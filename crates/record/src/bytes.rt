@@ -1,8 +1,6 @@
 // Parts of a list of bytes. A byte past the end counts as 0.
 ghost use mathlib.Core.Path.{_≡_};
-ghost use Prim.Native.Nat.{_≤_};
 ghost use lib.ListN.{getD, take, drop};
-ghost use Rattle.record.specs.Fields.{part};
 
 pub fn byte_at(bytes: &[u8], i: usize) -> u8
     ensures { λ r. ⌜ r ≡ getD (now (bytes .entry)) i 0 ⌝ }
@@ -23,12 +21,4 @@ pub fn bytes_in(bytes: &[u8], from: usize, n: usize) -> &[u8]
     }
     let end = from + n;
     &bytes[from..end]
-}
-
-// The number in the n bytes from a place on.
-pub fn word_in(bytes: &[u8], from: usize, n: usize) -> u64
-    requires { ⌜ n ≤ 8 ⌝ }
-    ensures { λ r. ⌜ r ≡ part (now (bytes .entry)) from n ⌝ }
-{
-    katan::word_of(bytes_in(bytes, from, n))
 }

@@ -1,25 +1,46 @@
 // A record: its fields, the checks 3 to 8 of them, and whether two records have the same bytes.
 ghost use mathlib.Core.Path.{_≡_};
+ghost use Prim.Native.Nat.{_≤_};
 ghost use lib.ListN.{getD};
 ghost use Rattle.katan.specs.Key.{keyNumber};
 ghost use Rattle.katan.specs.Checks.{value, checked};
-ghost use Rattle.record.specs.Fields.{sameBytes, lane, count, number, mask, key, block};
+ghost use Rattle.record.specs.Fields.{part, recordIn, sameBytes, lane, count, number, mask, key, block};
 ghost use Rattle.record.specs.Checks.{fieldChecks};
 ghost use Rattle.record.specs.Answers.{fieldOutcome};
 use crate::bytes::byte_at;
 use crate::bytes::bytes_in;
-use crate::bytes::word_in;
 use crate::faults::clear_fault;
 use crate::faults::load_fault;
 use crate::faults::move_fault;
 use katan::Key;
 use katan::Refusal;
 
-mod bytes;
+pub mod bytes;
 mod faults;
 
 // How many bytes a record has.
 pub const LENGTH: usize = 40;
+
+// The bytes of a record, to keep.
+pub fn record_in(bytes: &[u8]) -> [u8; LENGTH]
+    ensures { λ r. ⌜ r ≡ recordIn (now (bytes .entry)) ⌝ }
+{
+    let mut to = [0u8; LENGTH];
+    let mut i: usize = 0;
+    while i < LENGTH {
+        to[i] = byte_at(bytes, i);
+        i += 1;
+    }
+    to
+}
+
+// The number in the n bytes from a place on.
+fn word_in(bytes: &[u8], from: usize, n: usize) -> u64
+    requires { ⌜ n ≤ 8 ⌝ }
+    ensures { λ r. ⌜ r ≡ part (now (bytes .entry)) from n ⌝ }
+{
+    katan::word_of(bytes_in(bytes, from, n))
+}
 
 // The kind: 1 load, 2 forward, 3 back, 4 clear.
 pub fn kind_byte(sent: &[u8]) -> u8

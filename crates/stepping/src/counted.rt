@@ -1,9 +1,8 @@
-// What a record that counts makes of the bench, and its bytes for the link.
+// What a record that counts makes of the bench.
 ghost use mathlib.Core.Path.{_≡_};
 ghost use Prim.Native.Nat.{_<_};
-ghost use lib.ListN.{length};
 ghost use Rattle.katan.specs.Sizes.{laneCount};
-ghost use Rattle.record.specs.Fields.{recordLength, kind, lane, load as loadKind};
+ghost use Rattle.record.specs.Fields.{kind, lane, load as loadKind};
 ghost use Rattle.bench.specs.Bench.{loadedBy, slotsAs, totalAs};
 ghost use Rattle.moves.specs.Moves.{SoundBench, withSlots};
 use bench::Bench;
@@ -14,7 +13,6 @@ use katan::RoundPosition;
 use moves::BenchStep;
 use moves::Motion;
 use moves::step_lanes;
-use record::LENGTH;
 
 // What a load puts into its lane.
 fn loaded_by(sent: &[u8]) -> Loaded
@@ -69,18 +67,4 @@ pub fn step(bench: Bench, sent: &[u8]) -> BenchStep
             total: 0,
         },
     }
-}
-
-// The bytes of a record, to keep.
-pub fn bytes_of(sent: &[u8]) -> [u8; LENGTH]
-    requires { ⌜ length (now sent) ≡ recordLength ⌝ }
-    ensures { λ r. ⌜ r ≡ now (sent .entry) ⌝ }
-{
-    let mut to = [0u8; LENGTH];
-    let mut i: usize = 0;
-    while i < LENGTH {
-        to[i] = sent[i];
-        i += 1;
-    }
-    to
 }

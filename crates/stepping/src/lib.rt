@@ -4,7 +4,6 @@ ghost use mathlib.Core.List.{[], _∷_};
 ghost use Rattle.katan.specs.Checks.{value, checked, variantCheck};
 ghost use Rattle.bench.specs.Bench.{freshBench, freshLink, arriveOf, effectOf, readOf, readingAnswer};
 ghost use Rattle.stepping.specs.Answers.{openOutcome, leaving};
-use crate::counted::bytes_of;
 use crate::counted::step;
 use bench::Arrival;
 use bench::Arrived;
@@ -90,7 +89,7 @@ fn arrive_core(bench: Bench, link: Link, sent: &[u8]) -> Arrival
             let number = record::number_of(sent);
             let after = step(bench, sent);
             let total = after.total;
-            let bytes = bytes_of(sent);
+            let bytes = record::record_in(sent);
             let next = Link {
                 last: number,
                 bytes: bytes,

@@ -3,6 +3,7 @@ use Rattle.katan.specs.Checks.{value}
 use Rattle.bench.specs.Checks.{counts, decision}
 use Rattle.bench.specs.Bench.{benchView, countedEffect, effectAs, arriveOf}
 use Rattle.bench.proofs.Turns.{counts-next}
+use Rattle.record.proofs.Parts.{whole-record}
 use Rattle.checks.specs.Decision.{decisionOutcome}
 use Rattle.stepping.proofs.Effects.{counts-sound, repeat-effect, refused-effect}
 use borrow.Author.Needs.{needs}
@@ -28,11 +29,8 @@ step-requires c κs =
     let a = e .before .before .before .before .args in
     (counts-sound (a .bench) (a .link) (a .sent .now) (counting e), counts-next (benchView (a .bench) (a .link)) (a .sent .now) (counting e) .0 .lane-in)
 
-bytes-of-requires : tie.Need-bytes-of-requires
-bytes-of-requires c κs =
-    let e = c .before .before in
-    let a = e .before .before .before .before .args in
-    counts-next (benchView (a .bench) (a .link)) (a .sent .now) (counting e) .0 .size
+record-in-requires : tie.Need-record-in-requires
+record-in-requires c κs = search needs
 
 enum-told-2 : tie.Need-enum-told-2
 enum-told-2 c = search needs
@@ -44,7 +42,10 @@ returns : tie.Need-returns
 unfolding arriveOf effectAs countedEffect
 returns c =
     let s = c .before .before in
-    simp (counting (s .before .before), c .before .bytes-of .ensures, s .step .ensures .0, s .step .ensures .1, s .before .number-of .ensures)
+    let e = s .before .before in
+    let a = e .before .before .before .before .args in
+    let whole = whole-record (a .sent .now) (counts-next (benchView (a .bench) (a .link)) (a .sent .now) (counting e) .0 .size) in
+    simp (counting e, c .before .record-in .ensures ∙ whole, s .step .ensures .0, s .step .ensures .1, s .before .number-of .ensures)
 
 -- found wherever the decision stands, so that what they refuse is an arrival that says something else
 returns-2 : tie.Need-returns-2
@@ -61,7 +62,7 @@ arrive-core-spec =
     enum-told
     number-of-requires
     step-requires
-    bytes-of-requires
+    record-in-requires
     enum-told-2
     enum-known-r
     returns

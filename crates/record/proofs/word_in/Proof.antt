@@ -1,8 +1,8 @@
 use mathlib.Core.Path.{_∙_}
 use Rattle.record.proofs.Parts.{part-of}
 use borrow.Author.Needs.{needs}
-use Rattle.record.proofs.bytes.word_in.Statement.{statement}
-use Rattle.record.proofs.bytes.word_in.Tie as tie
+use Rattle.record.proofs.word_in.Statement.{statement}
+use Rattle.record.proofs.word_in.Tie as tie
 
 bytes-in-requires : tie.Need-bytes-in-requires
 bytes-in-requires c κs = search needs
