@@ -12,7 +12,7 @@ use Rattle.bench.specs.declared.Link.{Link}
 use Rattle.bench.specs.declared.Arrival.{Arrival}
 use Rattle.bench.specs.Calls.{Answer}
 use Rattle.bench.specs.Bench.{Effect, arriveOf, effectOf, replyAnswer}
-use Rattle.driver.specs.Layout.{benchLength, linkLength, benchIn, linkIn, benchBytes, linkBytes}
+use Rattle.layout.specs.Layout.{benchLength, linkLength, benchIn, linkIn, benchBytes, linkBytes}
 use Rattle.driver.specs.Calls.{statusOf, written, sizeCheck, heldCheck, responseWords, ifCounted, arriveEffect, arriveCall, arrivedBench, arrivedLink, arrivedAnswer}
 use Rattle.driver.proofs.Statuses.{refused-call, other-size, same-size, held}
 

@@ -11,13 +11,13 @@ use Rattle.bench.specs.Calls.{Answer}
 use Rattle.record.specs.Checks.{lengthCheck, fieldChecks, laneCheck}
 use Rattle.bench.specs.Checks.{emptyLane, turnChecks, emptyCheck, arrivalChecks, readChecks, Turn, counts, repeats, turnOf, decision, laneAnswer, readOutcome}
 use Rattle.bench.specs.Bench.{slotView, benchView, countedEffect, effectAs, arriveOf, readOf}
-use Rattle.driver.specs.Layout.{benchLength, linkLength, benchIn, linkIn, benchBytes, linkBytes}
+use Rattle.layout.specs.Layout.{benchLength, linkLength, benchIn, linkIn, benchBytes, linkBytes}
 use Rattle.driver.specs.Calls.{heldCheck, ifCounted, readCall, arriveEffect, arriveCall}
-use Rattle.driver.specs.ReadBack.{BenchFits, LinkFits}
+use Rattle.layout.specs.ReadBack.{BenchFits, LinkFits}
 use Rattle.driver.specs.Follows.{EveryArrival, EveryRead}
 use Rattle.driver.proofs.Statuses.{read-1, read-passed}
 use Rattle.driver.proofs.Arrivals.{arrive-1, arrive-passed}
-use Rattle.driver.proofs.ReadBack.{bench-read-back, link-read-back}
+use Rattle.layout.proofs.ReadBack.{bench-read-back, link-read-back}
 
 module _ (bench link sent : List ℕ) where
   -- check 1 comes first in a list's arrival too

@@ -1,7 +1,4 @@
-mod Turns
-mod Words
 mod Statuses
 mod Arrivals
-mod ReadBack
 mod Replays
 mod Follows

@@ -12,7 +12,7 @@ use Rattle.bench.specs.Calls.{Call}
 use Rattle.bench.specs.Claim.{benchAfter, modelAnswers}
 use Rattle.replay.specs.Encoding.{outputOf, callsIn}
 use Rattle.replay.specs.Replay.{ran, written as ranOutput, replayChecks, accepted, replayAnswer, replayOutput, callsRun}
-use Rattle.driver.specs.Layout.{benchLength, benchBytes}
+use Rattle.layout.specs.Layout.{benchLength, benchBytes}
 use Rattle.driver.specs.Calls.{statusOf, written, replayCall, replayedBench, replayedAnswers}
 use Rattle.driver.proofs.Statuses.{refused-call, sized-1, sized-2, sized-passed}
 

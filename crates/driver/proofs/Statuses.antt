@@ -10,7 +10,7 @@ use Rattle.katan.specs.Checks.{Outcome, value, refused, checked, variantCheck}
 use Rattle.katan.proofs.Variants.{fault-first, fault-later}
 use Rattle.bench.specs.declared.Bench.{Bench}
 use Rattle.bench.specs.Bench.{freshBench, freshLink, readOf}
-use Rattle.driver.specs.Layout.{benchLength, linkLength, benchIn, benchBytes, linkBytes}
+use Rattle.layout.specs.Layout.{benchLength, linkLength, benchIn, benchBytes, linkBytes}
 use Rattle.driver.specs.Calls.{statusOf, written, sizeCheck, sizedCall, openCall, openedBench, openedLink, heldCheck, readCall}
 
 -- ---- what a call owes for a lent output

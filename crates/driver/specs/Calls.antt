@@ -16,7 +16,7 @@ use Rattle.bench.specs.Bench.{freshBench, freshLink, slotView, Effect, arriveOf
 use Rattle.bench.specs.Claim.{benchAfter, modelAnswers}
 use Rattle.replay.specs.Encoding.{outputOf}
 use Rattle.replay.specs.Replay.{accepted}
-use Rattle.driver.specs.Layout.{benchLength, linkLength, benchIn, linkIn, benchBytes, linkBytes}
+use Rattle.layout.specs.Layout.{benchLength, linkLength, benchIn, linkIn, benchBytes, linkBytes}
 
 -- the status returned: 0, or the refusal's number
 abbrev pub statusOf : {A : Type 0} → Outcome A → ℕ

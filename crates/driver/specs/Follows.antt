@@ -6,9 +6,9 @@ use mathlib.Core.Path.{_≡_}
 use mathlib.Core.List.{List}
 use lib.ListN.{length}
 use Rattle.bench.specs.Bench.{readOf}
-use Rattle.driver.specs.Layout.{benchLength, linkLength, benchIn, linkIn}
+use Rattle.layout.specs.Layout.{benchLength, linkLength, benchIn, linkIn}
 use Rattle.driver.specs.Calls.{readCall, arriveEffect, arriveCall, arrivedBench, arrivedLink}
-use Rattle.driver.specs.ReadBack.{BenchFits, LinkFits}
+use Rattle.layout.specs.ReadBack.{BenchFits, LinkFits}
 
 pub record Arrives (bench link sent answer : List ℕ) : Type 0 where
   pub same-answer : arriveCall bench link sent answer ≡ arriveEffect bench link sent answer .answer

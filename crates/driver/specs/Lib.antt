@@ -1,4 +1,2 @@
-pub mod Layout
 pub mod Calls
-pub mod ReadBack
 pub mod Follows

@@ -10,24 +10,22 @@ ghost use Rattle.lanes.specs.declared.Direction.the-variants.{Encrypt, Decrypt}
 ghost use Rattle.rate.specs.Rate.{cyclesOf, rateOutcome};
 ghost use Rattle.bench.specs.Bench.{replyAnswer, readingAnswer};
 ghost use Rattle.replay.specs.Replay.{replayOutcome};
-ghost use Rattle.driver.specs.Layout.{benchLength, linkLength, benchBytes, linkBytes};
+ghost use Rattle.layout.specs.Layout.{benchLength, linkLength, benchBytes, linkBytes};
 ghost use Rattle.driver.specs.Calls.{statusOf, written, word, encryptCall, decryptCall, rateCall, openCall, openedBench, openedLink, responseWords, ifCounted, readCall, arriveCall, arrivedBench, arrivedLink, arrivedAnswer, replayCall, replayedBench, replayedAnswers};
-use crate::layout::BENCH_LENGTH;
-use crate::layout::LINK_LENGTH;
-use crate::layout::bench_in;
-use crate::layout::link_in;
-use crate::layout::put_bench;
-use crate::layout::put_link;
 use bench::Arrival;
 use bench::ReadAnswer;
 use bench::Reply;
 use katan::RowAnswer;
 use lanes::Direction;
+use layout::BENCH_LENGTH;
+use layout::LINK_LENGTH;
+use layout::bench_in;
+use layout::link_in;
+use layout::put_bench;
+use layout::put_link;
 use rate::RateAnswer;
 use replay::ReplayAnswer;
 use replay::Replayed;
-
-mod layout;
 
 // The status of a call that is not refused, and of one that is refused by check 1 or 2.
 const ACCEPTED: u8 = 0;

@@ -1,7 +1,8 @@
 use mathlib.Core.Path.{sym, ap, _∙_}
 use Rattle.bench.specs.declared.Bench.{Bench}
 use Rattle.bench.specs.declared.Link.{Link}
-use Rattle.driver.specs.Layout.{benchBytes, linkBytes}
+use Rattle.layout.proofs.Fitted.{it-fits}
+use Rattle.layout.specs.Layout.{benchBytes, linkBytes}
 use Rattle.driver.proofs.Statuses.{opening-refused, opening-passed, open-1, open-2, open-2-link, open-passed}
 use borrow.Author.Needs.{needs}
 use Rattle.driver.proofs.katan_open.Statement.{statement}
@@ -56,8 +57,8 @@ returns-4 c =
     let e = f .before in
     let d = e .before .before .before .before in
     opening-passed (d .args .variant) (d .args .bench .now) (d .args .link .now) (open-passed (d .args .variant) (d .args .bench .now) (d .args .link .now) (sym (e .before .bad-variant .ensures) ∙ e .if1 .left) (f .if2 .left) (g .if3 .left))
-    (b .put-bench .ensures ∙ ap (λ (x : Bench). benchBytes x (d .args .bench .now)) (b .before .before .fresh-bench .ensures))
-    (l .put-link .ensures ∙ ap (λ (x : Link). linkBytes x) (k .fresh-link .ensures))
+    (b .put-bench .ensures ∙ it-fits _ _ (d .args .bench .now) (f .if2 .left) ∙ ap (λ (x : Bench). benchBytes x (d .args .bench .now)) (b .before .before .fresh-bench .ensures))
+    (l .put-link .ensures ∙ it-fits _ _ (d .args .link .now) (g .if3 .left) ∙ ap (λ (x : Link). linkBytes x) (k .fresh-link .ensures))
 
 pub katan-open-spec : {M : Type 1} → statement M
 katan-open-spec =

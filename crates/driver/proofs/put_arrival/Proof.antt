@@ -1,4 +1,5 @@
-use mathlib.Core.Path.{refl}
+use mathlib.Core.Path.{refl, _∙_}
+use Rattle.layout.proofs.Fitted.{it-fits}
 use borrow.Author.Needs.{needs}
 use Rattle.driver.proofs.put_arrival.Statement.{statement}
 use Rattle.driver.proofs.put_arrival.Tie as tie
@@ -42,7 +43,8 @@ returns c =
     let l = a .before .before .before .before in
     let b = l .before .before .before .before in
     let m = b .before .before .before .before in
-    rw (m .before .reply .given .1) (refl, b .put-bench .ensures, l .put-link .ensures, a .put-response .ensures)
+    let d = m .before .before .before .before .before .before in
+    rw (m .before .reply .given .1) (refl, b .put-bench .ensures ∙ it-fits _ _ (d .args .bench .now) (d .pre .0), l .put-link .ensures ∙ it-fits _ _ (d .args .link .now) (d .pre .1), a .put-response .ensures)
 
 same-length-4 : tie.Need-same-length-4
 same-length-4 c = search needs

@@ -1,5 +1,5 @@
 use mathlib.Core.Path.{refl}
-use Rattle.driver.proofs.Words.{two-words}
+use Rattle.layout.proofs.Words.{two-words}
 use borrow.Author.Needs.{needs}
 use Rattle.driver.proofs.put_reading.Statement.{statement}
 use Rattle.driver.proofs.put_reading.Tie as tie

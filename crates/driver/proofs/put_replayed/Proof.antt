@@ -1,4 +1,5 @@
-use mathlib.Core.Path.{refl}
+use mathlib.Core.Path.{refl, _∙_}
+use Rattle.layout.proofs.Fitted.{it-fits}
 use borrow.Author.Needs.{needs}
 use Rattle.driver.proofs.put_replayed.Statement.{statement}
 use Rattle.driver.proofs.put_replayed.Tie as tie
@@ -21,7 +22,9 @@ same-length c = search needs
 returns : tie.Need-returns
 returns c =
     let b = c .before .before in
-    rw (b .before .before .before .enum-told .given .1) (refl, b .put-bench .ensures)
+    let m = b .before .before .before in
+    let d = m .before .before .before in
+    rw (m .enum-told .given .1) (refl, b .put-bench .ensures ∙ it-fits _ _ (d .args .bench .now) (d .pre))
 
 returns-2 : tie.Need-returns-2
 returns-2 c = rw (c .before .before .answer .given .1) (c .refusal-number .ensures, refl)

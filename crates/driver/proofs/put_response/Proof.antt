@@ -1,4 +1,4 @@
-use Rattle.driver.proofs.Words.{three-words}
+use Rattle.layout.proofs.Words.{three-words}
 use borrow.Author.Needs.{needs}
 use Rattle.driver.proofs.put_response.Statement.{statement}
 use Rattle.driver.proofs.put_response.Tie as tie

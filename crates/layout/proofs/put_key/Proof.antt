@@ -1,0 +1,67 @@
+use mathlib.Core.Path.{ap, sym, _∙_}
+use mathlib.Core.List.{List, _++_}
+use Prim.Native.Nat.{ℕ}
+use lib.ListN.{length}
+use Rattle.katan.specs.Bit.{bytesOf}
+use Rattle.katan.proofs.Numbers.{length-bytes, two-numbers}
+use Rattle.layout.proofs.Turns.{two-parts}
+use borrow.Author.Needs.{needs}
+use Rattle.layout.proofs.put_key.Statement.{statement}
+use Rattle.layout.proofs.put_key.Tie as tie
+
+sub-put-number : tie.Need-sub-put-number
+sub-put-number c = search needs
+
+part-put-number-start : tie.Need-part-put-number-start
+part-put-number-start c = search needs
+
+part-put-number-end : tie.Need-part-put-number-end
+part-put-number-end c = search needs
+
+put-number-requires : tie.Need-put-number-requires
+put-number-requires c κs = search needs
+
+cast-put-number : tie.Need-cast-put-number
+cast-put-number c = search needs
+
+sub-put-number-2 : tie.Need-sub-put-number-2
+sub-put-number-2 c = search needs
+
+part-put-number-start-2 : tie.Need-part-put-number-start-2
+part-put-number-start-2 c = search needs
+
+part-put-number-end-2 : tie.Need-part-put-number-end-2
+part-put-number-end-2 c = search needs
+
+put-number-requires-2 : tie.Need-put-number-requires-2
+put-number-requires-2 c κs = search needs
+
+same-length : tie.Need-same-length
+same-length c = search needs
+
+returns : tie.Need-returns
+returns c =
+    let h = c .before .before in
+    let l = h .before .before .before .before .before in
+    let d = l .before .before .before in
+    let key = d .args .key in
+    two-parts 8 2 (d .args .out .now) (l .put-number .last .1 .1 .0) (h .put-number2 .last .1 .1 .0) (d .pre) (ap (λ (s : List ℕ). length s) (l .put-number .ensures) ∙ length-bytes 8 (key .low))
+    ∙ ap (λ (s : List ℕ). s ++ h .put-number2 .last .1 .1 .0) (l .put-number .ensures)
+    ∙ ap (λ (s : List ℕ). bytesOf 8 (key .low) ++ s) (h .put-number2 .ensures)
+    ∙ sym (two-numbers 8 2 (key .low) (key .high) (search needs))
+
+pub put-key-spec : {M : Type 1} → statement M
+put-key-spec =
+    tie.close
+    (tie.spec
+    sub-put-number
+    part-put-number-start
+    part-put-number-end
+    put-number-requires
+    cast-put-number
+    sub-put-number-2
+    part-put-number-start-2
+    part-put-number-end-2
+    put-number-requires-2
+    same-length
+    returns)

@@ -1,0 +1,85 @@
+-- The bench and the link as a driver holds them: their layout in bytes. Numbers are low byte first. A byte past the end counts as 0.
+-- Assumes nothing.
+use Prim.Native.Nat.{ℕ, zero, suc, _+_, _*_}
+use mathlib.Core.List.{List, [], _∷_, _++_}
+use lib.Dec.{eqb}
+use lib.ListN.{length, getD, set, take, drop}
+use Rattle.katan.specs.Bit.{pick, bytesOf}
+use Rattle.katan.specs.Key.{keyNumber}
+use Rattle.katan.specs.Sizes.{laneCount, keyBytes}
+use Rattle.record.specs.Fields.{recordLength, recordIn, part}
+use Rattle.bench.specs.declared.Loaded.{Loaded}
+use Rattle.bench.specs.declared.Lane.{Lane}
+use Rattle.bench.specs.declared.Lane.the-variants.{Empty, Held}
+use Rattle.bench.specs.declared.Slot.{Slot}
+use Rattle.bench.specs.declared.Bench.{Bench}
+use Rattle.bench.specs.declared.Link.{Link}
+use Rattle.bench.specs.Bench.{keyOf}
+
+-- a lane: byte 0 its state, 0 empty and 1 loaded; byte 1 its position; bytes 2 to 11 its key; bytes 12 to 19 its registers
+abbrev pub keyStart : ℕ
+keyStart = 2
+
+abbrev pub registersStart : ℕ
+registersStart = keyStart + keyBytes
+
+abbrev pub laneLength : ℕ
+laneLength = registersStart + 8
+
+-- a bench: byte 0 its variant, then its lanes
+abbrev pub benchLength : ℕ
+benchLength = 1 + laneLength * laneCount
+
+-- a link: bytes 0 to 3 last, bytes 4 to 7 the total, then the record
+abbrev pub recordStart : ℕ
+recordStart = 8
+
+abbrev pub linkLength : ℕ
+linkLength = recordStart + recordLength
+
+-- ---- what the bytes say
+
+-- a state that is neither empty nor loaded is read as a position over 254, so that check 1 finds a fault
+abbrev pub positionIn : List ℕ → ℕ
+positionIn s = pick (eqb (getD s 0 0) 1) (getD s 1 0) 255
+
+unfoldable pub loadedIn : List ℕ → Loaded
+loadedIn s = record { key = keyOf (part s keyStart keyBytes); position = record { 0 = positionIn s }; registers = part s registersStart 8 }
+
+unfoldable pub laneIn : List ℕ → Lane
+laneIn s = pick (eqb (getD s 0 0) 0) Empty (Held (loadedIn s))
+
+-- the first n lanes
+unfoldable pub slotsIn : ℕ → List ℕ → List Slot
+slotsIn zero s = []
+slotsIn (suc n) s = record { lane = laneIn (take laneLength s) } ∷ slotsIn n (drop laneLength s)
+
+unfoldable pub benchIn : List ℕ → Bench
+benchIn s = record { variant = getD s 0 0; slots = slotsIn laneCount (drop 1 s) }
+
+unfoldable pub linkIn : List ℕ → Link
+linkIn s = record { last = part s 0 4; total = part s 4 4; bytes = recordIn (take recordLength (drop recordStart s)) }
+
+-- ---- the bytes that say it
+
+unfoldable pub loadedBytes : Loaded → List ℕ
+loadedBytes h = 1 ∷ h .position .0 ∷ bytesOf keyBytes (keyNumber (h .key)) ++ bytesOf 8 (h .registers)
+
+-- over the bytes that were there: an empty lane's are kept, but for its state
+unfoldable pub laneBytes : Lane → List ℕ → List ℕ
+laneBytes Empty old = set old 0 0
+laneBytes (Held h) old = loadedBytes h
+
+unfoldable pub slotBytes : List Slot → List ℕ → List ℕ
+slotBytes [] old = []
+slotBytes (s ∷ ss) old = laneBytes (s .lane) (take laneLength old) ++ slotBytes ss (drop laneLength old)
+
+unfoldable pub benchBytes : Bench → List ℕ → List ℕ
+benchBytes b old = b .variant ∷ slotBytes (b .slots) (drop 1 old)
+
+unfoldable pub linkBytes : Link → List ℕ
+linkBytes l = bytesOf 4 (l .last) ++ bytesOf 4 (l .total) ++ l .bytes
+
+-- what they leave of lent memory: it is written to only where it has their n bytes
+abbrev pub fitted : ℕ → (new old : List ℕ) → List ℕ
+fitted n new old = pick (eqb (length old) n) new old
