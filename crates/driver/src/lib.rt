@@ -3,7 +3,6 @@
 ghost use mathlib.Core.Path.{_≡_};
 ghost use mathlib.Core.List.{[], _∷_};
 ghost use lib.ListN.{length};
-ghost use Rattle.katan.specs.Checks.{variantCheck};
 ghost use Rattle.registers.specs.Answers.{outcome as blockOutcome};
 ghost use Rattle.lanes.specs.Many.{outcome as manyOutcome, manyAnswer, manyOf};
 ghost use Rattle.lanes.specs.declared.Direction.the-variants.{Encrypt, Decrypt};
@@ -15,7 +14,6 @@ ghost use Rattle.driver.specs.Calls.{statusOf, written, word, encryptCal
 use bench::Arrival;
 use bench::ReadAnswer;
 use bench::Reply;
-use katan::RowAnswer;
 use lanes::Direction;
 use layout::BENCH_LENGTH;
 use layout::LINK_LENGTH;
@@ -33,16 +31,6 @@ const ACCEPTED: u8 = 0;
 const BAD_VARIANT: u8 = 1;
 
 const BAD_LENGTH: u8 = 2;
-
-// Check 1 of a variant number.
-fn bad_variant(variant: u8) -> bool
-    ensures { λ r. ⌜ r ≡ variantCheck variant .fault ⌝ }
-{
-    match katan::row_of(variant) {
-        RowAnswer::Found(_) => false,
-        RowAnswer::Refused(_) => true,
-    }
-}
 
 // A block into the one word that is lent for it.
 fn put_block(answer: registers::Answer, out: &mut [u64]) -> u8
@@ -88,7 +76,7 @@ pub extern "C" fn katan_encrypt(variant: u8, key: &[u8], block: u64, out: &mut [
     ensures { λ r. ⌜ r ≡ statusOf (encryptCall variant (now (key .entry)) block (now (out .entry))) ⌝ }
     ensures { λ r. ⌜ now (out .exit) ≡ written word (encryptCall variant (now (key .entry)) block (now (out .entry))) (now (out .entry)) ⌝ }
 {
-    if bad_variant(variant) {
+    if katan::bad_variant(variant) {
         return BAD_VARIANT;
     }
     if out.len() != 1 {
@@ -103,7 +91,7 @@ pub extern "C" fn katan_decrypt(variant: u8, key: &[u8], block: u64, out: &mut [
     ensures { λ r. ⌜ r ≡ statusOf (decryptCall variant (now (key .entry)) block (now (out .entry))) ⌝ }
     ensures { λ r. ⌜ now (out .exit) ≡ written word (decryptCall variant (now (key .entry)) block (now (out .entry))) (now (out .entry)) ⌝ }
 {
-    if bad_variant(variant) {
+    if katan::bad_variant(variant) {
         return BAD_VARIANT;
     }
     if out.len() != 1 {
@@ -154,7 +142,7 @@ pub extern "C" fn katan_bit_rate(variant: u8, hertz: u64, out: &mut [u64]) -> u8
     ensures { λ r. ⌜ r ≡ statusOf (rateCall variant hertz (now (out .entry))) ⌝ }
     ensures { λ r. ⌜ now (out .exit) ≡ written word (rateCall variant hertz (now (out .entry))) (now (out .entry)) ⌝ }
 {
-    if bad_variant(variant) {
+    if katan::bad_variant(variant) {
         return BAD_VARIANT;
     }
     if out.len() != 1 {
@@ -221,7 +209,7 @@ pub extern "C" fn katan_open(variant: u8, bench: &mut [u8], link: &mut [u8]) -> 
         × (now (bench .exit) ≡ openedBench variant (now (bench .entry)) (now (link .entry)))
         × (now (link .exit) ≡ openedLink variant (now (bench .entry)) (now (link .entry))) ⌝ }
 {
-    if bad_variant(variant) {
+    if katan::bad_variant(variant) {
         return BAD_VARIANT;
     }
     if bench.len() != BENCH_LENGTH {
@@ -313,7 +301,7 @@ pub extern "C" fn katan_replay(
         × (now (bench .exit) ≡ replayedBench variant (now (calls .entry)) (now (bench .entry)) (now (answers .entry)))
         × (now (answers .exit) ≡ replayedAnswers variant (now (calls .entry)) (now (bench .entry)) (now (answers .entry))) ⌝ }
 {
-    if bad_variant(variant) {
+    if katan::bad_variant(variant) {
         return BAD_VARIANT;
     }
     if bench.len() != BENCH_LENGTH {

@@ -60,6 +60,9 @@ within : (v : ℕ) (b : Bool) → leb 1 v ≡ b → pick b (ltb 6 v) true ≡ fa
 within v true e f = (leb-true 1 v e, ltb-false 6 v f)
 within v false e f = let z : _≡_ {A = ℕ} 0 1 = cc in absurd (omega arith)
 
+pub is-variant : (v : ℕ) → variantCheck v .fault ≡ false → (1 ≤ v) × (v ≤ 6)
+is-variant v e = within v (leb 1 v) refl e
+
 pub row-found : (v : ℕ) (a : RowAnswer) (r : Row) → rowOutcome a ≡ rowAnswer v → a ≡ Found r → IsVariant v r
 row-found v a r e f =
     let g = passed r (rowOf v) (variantCheck v .fault) (ap rowOutcome (sym f) ∙ e) in

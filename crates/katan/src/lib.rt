@@ -8,6 +8,7 @@ ghost use Rattle.katan.specs.Counter.{counter, rounds};
 ghost use Rattle.katan.specs.Key.{keyBitNumber, keyNumber};
 ghost use Rattle.katan.specs.Variant.{row32, row48, row64};
 ghost use Rattle.katan.specs.Checks.{numberOf};
+ghost use Rattle.katan.specs.Checks.{variantCheck};
 ghost use Rattle.katan.specs.Rows.{rowOutcome, rowAnswer};
 
 mod constants;
@@ -198,6 +199,13 @@ pub fn key_of(bytes: &[u8]) -> Key
         low: word_of(bytes),
         high: high as u16,
     }
+}
+
+// Check 1 of a variant number.
+pub fn bad_variant(variant: u8) -> bool
+    ensures { λ r. ⌜ r ≡ variantCheck variant .fault ⌝ }
+{
+    if 1 <= variant { 6 < variant } else { true }
 }
 
 // What a call for a variant's row answers.

@@ -1,9 +1,7 @@
 // A whole list of calls, run on a fresh bench and link.
 ghost use mathlib.Core.Path.{_≡_};
-ghost use Prim.Native.Nat.{ℕ, _<_, _≤_};
-ghost use mathlib.Core.Bool.{false};
+ghost use Prim.Native.Nat.{ℕ, _<_};
 ghost use lib.ListN.{getD};
-ghost use Rattle.katan.specs.Checks.{variantCheck};
 ghost use Rattle.katan.specs.Sizes.{laneCount};
 ghost use Rattle.bench.specs.Bench.{emptySlot, slotView};
 ghost use Rattle.bench.specs.Model.{machineView};
@@ -13,7 +11,6 @@ use crate::calls::fits;
 use crate::run::run;
 use bench::Bench;
 use katan::Refusal;
-use katan::RowAnswer;
 
 mod answers;
 mod calls;
@@ -51,16 +48,6 @@ pub struct Replayed {
     pub answer: ReplayAnswer,
 }
 
-// Check 1 of the variant.
-fn bad_variant(variant: u8) -> bool
-    ensures { λ r. ⌜ (r ≡ variantCheck variant .fault) × (r ≡ false → (1 ≤ variant) × (variant ≤ 6)) ⌝ }
-{
-    match katan::row_of(variant) {
-        RowAnswer::Found(_) => false,
-        RowAnswer::Refused(_) => true,
-    }
-}
-
 // Each call's answer is written after the one before, and the output has room for exactly these. A refused list runs no call: the output is
 // left as it was, and the bench given back is a fresh one.
 pub fn replay(variant: u8, calls: &[u8], out: &mut [u8]) -> Replayed
@@ -71,7 +58,7 @@ pub fn replay(variant: u8, calls: &[u8], out: &mut [u8]) -> Replayed
         → slotView (getD (r .bench .slots) i emptySlot) ≡ machineView variant (machineAfter variant (callsRun variant (now (calls .entry)) (now (out .entry))) i)) ⌝ }
 {
     let bench = stepping::fresh_bench(variant);
-    let bad = bad_variant(variant);
+    let bad = katan::bad_variant(variant);
     let whole = fits(calls, out.len());
     if bad {
         return Replayed {

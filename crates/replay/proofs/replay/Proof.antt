@@ -1,5 +1,6 @@
 use mathlib.Core.Path.{refl, sym, _∙_}
 use borrow.Author.Tests.{not-true, not-false}
+use Rattle.katan.proofs.Variants.{is-variant}
 use Rattle.replay.proofs.Promise.{promise-1, promise-2, promise-run}
 use borrow.Author.Needs.{needs}
 use Rattle.replay.proofs.replay.Statement.{statement}
@@ -17,12 +18,12 @@ fits-requires c κs = search needs
 returns : tie.Need-returns
 returns c =
     let a = c .before .before .before .before .before .before .args in
-    promise-1 (a .variant) (a .calls .now) (a .out .now) _ _ _ (sym (c .before .before .bad-variant .ensures .0) ∙ c .if1 .taken) refl (c .before .before .before .fresh-bench .ensures) refl
+    promise-1 (a .variant) (a .calls .now) (a .out .now) _ _ _ (sym (c .before .before .bad-variant .ensures) ∙ c .if1 .taken) refl (c .before .before .before .fresh-bench .ensures) refl
 
 returns-2 : tie.Need-returns-2
 returns-2 c =
     let a = c .before .before .before .before .before .before .before .args in
-    let sound = sym (c .before .before .before .bad-variant .ensures .0) ∙ c .before .if1 .left in
+    let sound = sym (c .before .before .before .bad-variant .ensures) ∙ c .before .if1 .left in
     promise-2 (a .variant) (a .calls .now) (a .out .now) _ _ _ sound (sym (c .before .before .fits2 .ensures) ∙ not-true _ (c .if2 .taken)) refl (c .before .before .before .before .fresh-bench .ensures) refl
 
 fresh-link-requires : tie.Need-fresh-link-requires
@@ -38,10 +39,9 @@ returns-3 : tie.Need-returns-3
 returns-3 c =
     let a = c .before .before .before .before .before .before .before .before .before .before .before .before .args in
     let run = c .before .before .run in
-    let bad = c .before .before .before .before .before .before .before .before .bad-variant .ensures in
-    let left = c .before .before .before .before .before .before .if1 .left in
+    let sound = sym (c .before .before .before .before .before .before .before .before .bad-variant .ensures) ∙ c .before .before .before .before .before .before .if1 .left in
     let whole = sym (c .before .before .before .before .before .before .before .fits2 .ensures) ∙ not-false _ (c .before .before .before .before .before .if2 .left) in
-    promise-run (a .variant) (a .calls .now) (a .out .now) _ _ (run .result) _ _ (sym (bad .0) ∙ left) (bad .1 left) whole refl
+    promise-run (a .variant) (a .calls .now) (a .out .now) _ _ (run .result) _ _ sound (is-variant (a .variant) sound) whole refl
     (c .before .before .before .before .before .before .before .before .before .fresh-bench .ensures) (c .before .before .before .before .fresh-link .ensures) (run .ensures .0) (run .ensures .1)
 
 pub replay-spec : {M : Type 1} → statement M
