@@ -3,7 +3,9 @@ ghost use mathlib.Core.Path.{_≡_};
 ghost use Prim.Native.Nat.{_*_, _<_, _^_};
 ghost use lib.Dec.{leb};
 ghost use lib.ListN.{getD, take};
+ghost use lib.ListN.{length};
 ghost use Rattle.katan.specs.Bit.{numberIn, tabulate};
+ghost use Rattle.katan.specs.Bit.{bytesOf};
 ghost use Rattle.katan.specs.Counter.{counter, rounds};
 ghost use Rattle.katan.specs.Key.{keyBitNumber, keyNumber};
 ghost use Rattle.katan.specs.Variant.{row32, row48, row64};
@@ -198,6 +200,19 @@ pub fn key_of(bytes: &[u8]) -> Key
     Key {
         low: word_of(bytes),
         high: high as u16,
+    }
+}
+
+// A number in as many bytes as are lent for it, low byte first: what is too large for them is cut off.
+pub fn put_number(x: u64, out: &mut [u8])
+    ensures { λ r. ⌜ now (out .exit) ≡ bytesOf (length (now (out .entry))) x ⌝ }
+{
+    let mut rest = x;
+    let mut i: usize = 0;
+    while i < out.len() {
+        out[i] = (rest % 256) as u8;
+        rest = rest / 256;
+        i += 1;
     }
 }
 

@@ -2,7 +2,7 @@
 -- Assumes nothing.
 use mathlib.Core.Path.{_≡_, refl, sym, ap, _∙_}
 use mathlib.Core.List.{List, [], _∷_, _++_, append-assoc, append-nil}
-use Prim.Native.Nat.{ℕ, suc, _+_, _-_, _/_, _%_, _^_, _<_, _≤_}
+use Prim.Native.Nat.{ℕ, suc, _+_, _-_, _<_, _≤_}
 use native.Mathlib.Numerals.{add-one}
 use native.Mathlib.Omega.{arith}
 use lib.ListN.{length, getD, take, drop, set, drop-of-length-le, length-append}
@@ -11,7 +11,6 @@ use Rattle.bench.specs.declared.Lane.{Lane}
 use Rattle.bench.specs.declared.Slot.{Slot}
 use Rattle.bench.specs.declared.Bench.{Bench}
 use Rattle.bench.specs.Bench.{emptySlot}
-use Rattle.katan.specs.Bit.{bytesOf}
 use Rattle.layout.specs.Layout.{laneLength, laneIn, slotsIn, laneBytes, slotBytes}
 
 -- the elements from a on, k of them, are written anew
@@ -47,14 +46,6 @@ three-parts a b k xs ys zs ws l ly lz =
     let e : now ≡ (ys ++ zs) ++ drop (a + b) xs = simp (take-at ys (drop a xs) a ly, drop-at ys (drop a xs) a ly, drop-drop b a xs, append-assoc) in
     let m : length (ys ++ zs) ≡ a + b = simp length-append (omega arith) in
     ap (λ (o : List ℕ). take (a + b) o ++ (ws ++ drop k (drop (a + b) o))) e ∙ two-parts (a + b) k xs (ys ++ zs) ws l m
-
--- a number's bytes, one after the other; n of them are to come
-pub number-on : (n i r : ℕ) (xs : List ℕ) → i < length xs → i < n
-    → take (i + 1) (set xs i (r % 2 ^ 8)) ++ bytesOf (n - (i + 1)) (r / 2 ^ 8) ≡ take i xs ++ bytesOf (n - i) r
-unfolding bytesOf
-number-on n i r xs h q =
-    let e : n - i ≡ suc (n - (i + 1)) = omega arith in
-    rw e (simp (add-one, take-suc-set xs i (r % 2 ^ 8) h, append-assoc))
 
 -- the lanes read, one after the other; n of them in all
 abbrev slotOf : Lane → Slot

@@ -109,26 +109,12 @@ pub fn link_in(bytes: &[u8]) -> Link
     }
 }
 
-// A number into n bytes.
-fn put_number(x: u64, n: usize, out: &mut [u8])
-    requires { ⌜ length (now out) ≡ n ⌝ }
-    ensures { λ r. ⌜ now (out .exit) ≡ bytesOf n x ⌝ }
-{
-    let mut rest = x;
-    let mut i: usize = 0;
-    while i < n {
-        out[i] = (rest % 256) as u8;
-        rest = rest / 256;
-        i += 1;
-    }
-}
-
 fn put_key(key: Key, out: &mut [u8])
     requires { ⌜ length (now out) ≡ keyBytes ⌝ }
     ensures { λ r. ⌜ now (out .exit) ≡ bytesOf keyBytes (keyNumber key) ⌝ }
 {
-    put_number(key.low, 8, &mut out[0..8]);
-    put_number(key.high as u64, 2, &mut out[8..KEY_BYTES]);
+    katan::put_number(key.low, &mut out[0..8]);
+    katan::put_number(key.high as u64, &mut out[8..KEY_BYTES]);
 }
 
 // The state and the position of a loaded lane.
@@ -147,7 +133,7 @@ fn put_loaded(h: Loaded, out: &mut [u8])
     let key = h.key;
     put_head(h.position.0, &mut out[0..KEY_AT]);
     put_key(key, &mut out[KEY_AT..REGISTERS_AT]);
-    put_number(h.registers, 8, &mut out[REGISTERS_AT..LANE_LENGTH]);
+    katan::put_number(h.registers, &mut out[REGISTERS_AT..LANE_LENGTH]);
 }
 
 // The other bytes of an empty lane are kept.
@@ -207,8 +193,8 @@ fn write_link(link: Link, out: &mut [u8])
     ensures { λ r. ⌜ now (out .exit) ≡ linkBytes link ⌝ }
 {
     let sent = link.bytes;
-    put_number(link.last as u64, 4, &mut out[0..4]);
-    put_number(link.total as u64, 4, &mut out[4..8]);
+    katan::put_number(link.last as u64, &mut out[0..4]);
+    katan::put_number(link.total as u64, &mut out[4..8]);
     put_record(sent, &mut out[RECORD_AT..LINK_LENGTH]);
 }
 

@@ -1,12 +1,12 @@
--- A number written byte by byte, and an answer written field by field.
+-- A number written over a part of a list, and an answer written field by field.
 -- Assumes nothing.
 use mathlib.Core.Path.{_≡_, refl, sym, ap, ap₂, _∙_}
-use mathlib.Core.List.{List, [], _∷_, _++_, append-assoc, append-nil}
-use Prim.Native.Nat.{ℕ, zero, suc, _+_, _-_, _/_, _%_, _^_, _<_, _≤_}
+use mathlib.Core.List.{List, [], _∷_, _++_, append-assoc}
+use Prim.Native.Nat.{ℕ, _+_, _-_, _<_, _≤_}
 use native.Mathlib.Numerals.{add-one}
 use native.Mathlib.Omega.{arith}
-use lib.ListN.{length, take, drop, set, length-set, take-append-drop, length-append, length-drop}
-use lib.Seq.{take-suc-set, length-take-le, take-at, drop-append-add, drop-drop, set-split}
+use lib.ListN.{length, take, drop, set, length-set, length-append, length-drop}
+use lib.Seq.{length-take-le, take-at, drop-append-add, drop-drop, set-split}
 use native.Mathlib.Nat.{add-assoc}
 use Rattle.katan.specs.Checks.{numberOf, refused}
 use Rattle.katan.specs.declared.Refusal.{Refusal}
@@ -18,27 +18,21 @@ use Rattle.bench.specs.declared.ReadAnswer.the-variants.{At, Refused as ReadRef
 use Rattle.bench.specs.Bench.{replyAnswer, readingAnswer}
 use Rattle.katan.specs.Bit.{bytesOf}
 use Rattle.katan.proofs.Numbers.{length-bytes}
+use Rattle.katan.proofs.Written.{in-bytes}
 use Rattle.replay.specs.Encoding.{answerLength, answerFields, answerBytes}
 use Rattle.replay.specs.Steps.{overwritten}
 
-bytes-suc : (m n x : ℕ) → n ≡ suc m → bytesOf n x ≡ x % 2 ^ 8 ∷ bytesOf m (x / 2 ^ 8)
-unfolding bytesOf
-bytes-suc m n x e = rw e
-
--- one turn of the loop, with x what is left of the number
-pub number-on : (out : List ℕ) (n i x : ℕ) → i < n → i < length out
-    → take (i + 1) (set out i (x % 2 ^ 8)) ++ bytesOf (n - (i + 1)) (x / 2 ^ 8) ≡ take i out ++ bytesOf (n - i) x
-number-on out n i x h g =
-    let e : n - i ≡ suc (n - (i + 1)) = omega arith in
-    rw (add-one, take-suc-set out i (x % 2 ^ 8) g, append-assoc, bytes-suc (n - (i + 1)) (n - i) x e, add-one)
-
-pub number-end : (out old : List ℕ) (at n i rest x : ℕ) → i ≡ at + n → take i out ++ bytesOf (at + n - i) rest ≡ take at old ++ bytesOf n x
-    → drop (at + n) out ≡ drop (at + n) old → out ≡ overwritten old at (bytesOf n x)
-unfolding overwritten bytesOf
-number-end out old at n i rest x h e d =
-    let z : at + n - i ≡ 0 = omega arith in
-    let f = sym (append-nil (take i out)) ∙ ap (λ (m : ℕ). take i out ++ bytesOf m rest) (sym z) ∙ e in
-    rw (length-bytes n x) (sym (take-append-drop (at + n) out) ∙ ap₂ _++_ (ap (λ (m : ℕ). take m out) (sym h) ∙ f) d)
+-- a number in the part of a list from i to j, which has n places
+number-over : (out : List ℕ) (i j n x : ℕ) {ys : List ℕ} → j ≡ i + n → j ≤ length out → ys ≡ bytesOf (length (take (j - i) (drop i out))) x
+    → take i out ++ (ys ++ drop (j - i) (drop i out)) ≡ overwritten out i (bytesOf n x)
+unfolding overwritten
+number-over out i j n x e h y =
+    let k : j - i ≡ n = omega arith in
+    let l : length (take (j - i) (drop i out)) ≡ n = length-take-le (j - i) (drop i out) (omega (arith, length-drop i out)) ∙ k in
+    ap₂ (λ (a : List ℕ) (m : ℕ). take i out ++ (a ++ drop m (drop i out))) (in-bytes n x y l) k
+    ∙ ap (λ (b : List ℕ). take i out ++ (bytesOf n x ++ b)) (drop-drop n i out)
+    ∙ sym (append-assoc (take i out) (bytesOf n x) (drop (i + n) out))
+    ∙ ap (λ (m : ℕ). take i out ++ bytesOf n x ++ drop (i + m) out) (sym (length-bytes n x))
 
 -- ---- one thing written after another
 
@@ -72,23 +66,34 @@ unfolding overwritten
 set-over out i x h = simp (set-split out i x h, append-assoc, add-one)
 
 -- the three fields, each after the one before
-module _ (out : List ℕ) (i kind first second : ℕ) (h : i + answerLength ≤ length out) where
-  pub first-put : {a : List ℕ} → a ≡ overwritten (set out i kind) (i + 1) (bytesOf 4 first) → length a ≡ length out
-  unfolding bytesOf
-  first-put e =
-      let l = set out i kind in
-      ap length e ∙ length-over l (i + 1) (bytesOf 4 first) 4 refl (rw (length-set out i kind) (omega arith)) ∙ length-set out i kind
+module _ (out : List ℕ) (i kind first second : ℕ) (h : i + answerLength ≤ length out) (ys zs : List ℕ) where
+  abbrev one : List ℕ
+  one = set out i kind
 
-  pub fields-put : {a b : List ℕ} → a ≡ overwritten (set out i kind) (i + 1) (bytesOf 4 first) → b ≡ overwritten a (i + 5) (bytesOf 8 second)
-      → b ≡ overwritten out i (answerFields kind first second)
-  unfolding answerFields bytesOf
-  fields-put d e =
-      let g : i ≤ length out = omega arith in
-      let l : i < length out = omega arith in
-      e
-      ∙ ap (λ (a : List ℕ). overwritten a (i + 5) (bytesOf 8 second))
-      (d ∙ ap (λ (a : List ℕ). overwritten a (i + 1) (bytesOf 4 first)) (set-over out i kind l) ∙ over-over out i (kind ∷ []) (i + 1) (bytesOf 4 first) refl g)
-      ∙ over-over out i ((kind ∷ []) ++ bytesOf 4 first) (i + 5) (bytesOf 8 second) refl g
+  abbrev two : List ℕ
+  two = take (i + 1) one ++ (ys ++ drop (i + 5 - (i + 1)) (drop (i + 1) one))
+
+  module _ (e : ys ≡ bytesOf (length (take (i + 5 - (i + 1)) (drop (i + 1) one))) first) where
+    room : i + 5 ≤ length one
+    room = rw (length-set out i kind) (omega arith)
+
+    first-over : two ≡ overwritten one (i + 1) (bytesOf 4 first)
+    first-over = number-over one (i + 1) (i + 5) 4 first (omega arith) room e
+
+    pub first-put : length two ≡ length out
+    unfolding bytesOf
+    first-put = ap length first-over ∙ length-over one (i + 1) (bytesOf 4 first) 4 refl (omega (arith, room)) ∙ length-set out i kind
+
+    pub fields-put : zs ≡ bytesOf (length (take (i + 13 - (i + 5)) (drop (i + 5) two))) second
+        → take (i + 5) two ++ (zs ++ drop (i + 13 - (i + 5)) (drop (i + 5) two)) ≡ overwritten out i (answerFields kind first second)
+    unfolding answerFields bytesOf
+    fields-put f =
+        let g : i ≤ length out = omega arith in
+        let l : i < length out = omega arith in
+        number-over two (i + 5) (i + 13) 8 second (omega arith) (omega (arith, first-put)) f
+        ∙ ap (λ (a : List ℕ). overwritten a (i + 5) (bytesOf 8 second))
+        (first-over ∙ ap (λ (a : List ℕ). overwritten a (i + 1) (bytesOf 4 first)) (set-over out i kind l) ∙ over-over out i (kind ∷ []) (i + 1) (bytesOf 4 first) refl g)
+        ∙ over-over out i ((kind ∷ []) ++ bytesOf 4 first) (i + 5) (bytesOf 8 second) refl g
 
 pub fields-length : (kind first second : ℕ) → length (answerFields kind first second) ≡ answerLength
 unfolding answerFields bytesOf

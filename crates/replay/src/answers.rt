@@ -4,10 +4,10 @@ ghost use Prim.Native.Nat.{_+_, _≤_};
 ghost use lib.ListN.{length};
 ghost use Rattle.katan.specs.Checks.{numberOf, refused};
 ghost use Rattle.bench.specs.Bench.{replyAnswer, readingAnswer};
-ghost use Rattle.katan.specs.Bit.{bytesOf};
 ghost use Rattle.replay.specs.Encoding.{answerLength, answerBytes};
 ghost use Rattle.replay.specs.Steps.{fieldBytes, overwritten};
 use crate::AGAIN;
+use crate::ANSWER_LENGTH;
 use crate::AT;
 use crate::DONE;
 use crate::REFUSED;
@@ -63,27 +63,15 @@ pub fn read_fields(answer: ReadAnswer) -> Fields
     }
 }
 
-// Writes a number in n bytes, over those from a place on.
-fn write_number(x: u64, n: usize, at: usize, out: &mut [u8])
-    requires { ⌜ at + n ≤ length (now out) ⌝ }
-    ensures { λ r. ⌜ now (out .exit) ≡ overwritten (now (out .entry)) at (bytesOf n x) ⌝ }
-{
-    let end = at + n;
-    let mut rest = x;
-    let mut i = at;
-    while i < end {
-        out[i] = (rest % 256) as u8;
-        rest = rest / 256;
-        i += 1;
-    }
-}
-
 // Writes an answer over the bytes from a place on.
 pub fn write(answer: Fields, at: usize, out: &mut [u8])
     requires { ⌜ at + answerLength ≤ length (now out) ⌝ }
     ensures { λ r. ⌜ now (out .exit) ≡ overwritten (now (out .entry)) at (fieldBytes answer) ⌝ }
 {
+    let first = at + 1;
+    let second = at + 5;
+    let end = at + ANSWER_LENGTH;
     out[at] = answer.kind;
-    write_number(answer.first as u64, 4, at + 1, out);
-    write_number(answer.second, 8, at + 5, out);
+    katan::put_number(answer.first as u64, &mut out[first..second]);
+    katan::put_number(answer.second, &mut out[second..end]);
 }

@@ -1,9 +1,9 @@
-use mathlib.Core.Path.{ap, sym, _∙_}
+use mathlib.Core.Path.{ap, ap₂, sym, _∙_}
 use mathlib.Core.List.{List, _++_}
 use Prim.Native.Nat.{ℕ}
 use lib.ListN.{length}
-use Rattle.katan.specs.Bit.{bytesOf}
 use Rattle.katan.proofs.Numbers.{length-bytes, two-numbers}
+use Rattle.katan.proofs.Written.{in-bytes}
 use Rattle.layout.proofs.Turns.{two-parts}
 use borrow.Author.Needs.{needs}
 use Rattle.layout.proofs.put_key.Statement.{statement}
@@ -45,9 +45,10 @@ returns c =
     let l = h .before .before .before .before .before in
     let d = l .before .before .before in
     let key = d .args .key in
-    two-parts 8 2 (d .args .out .now) (l .put-number .last .1 .1 .0) (h .put-number2 .last .1 .1 .0) (d .pre) (ap (λ (s : List ℕ). length s) (l .put-number .ensures) ∙ length-bytes 8 (key .low))
-    ∙ ap (λ (s : List ℕ). s ++ h .put-number2 .last .1 .1 .0) (l .put-number .ensures)
-    ∙ ap (λ (s : List ℕ). bytesOf 8 (key .low) ++ s) (h .put-number2 .ensures)
+    let low = in-bytes 8 (key .low) (l .put-number .ensures) (search needs) in
+    let high = in-bytes 2 (key .high) (h .put-number2 .ensures) (search needs) in
+    two-parts 8 2 (d .args .out .now) (l .put-number .last .1 .0) (h .put-number2 .last .1 .0) (d .pre) (ap (λ (s : List ℕ). length s) low ∙ length-bytes 8 (key .low))
+    ∙ ap₂ (λ (s t : List ℕ). s ++ t) low high
     ∙ sym (two-numbers 8 2 (key .low) (key .high) (search needs))
 
 pub put-key-spec : {M : Type 1} → statement M

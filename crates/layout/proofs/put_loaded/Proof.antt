@@ -6,6 +6,7 @@ use Rattle.katan.specs.Key.{keyNumber}
 use Rattle.katan.specs.Sizes.{keyBytes}
 use Rattle.layout.specs.Layout.{loadedBytes}
 use Rattle.katan.proofs.Numbers.{length-bytes}
+use Rattle.katan.proofs.Written.{in-bytes}
 use Rattle.layout.proofs.Turns.{three-parts}
 use borrow.Author.Needs.{needs}
 use Rattle.layout.proofs.put_loaded.Statement.{statement}
@@ -57,9 +58,9 @@ returns c =
     let k = r .before .before .before .before in
     let p = k .before .before .before .before in
     let d = p .before .before .before .before in
-    three-parts 2 10 8 (d .args .out .now) (p .put-head .last .1 .0) (k .put-key .last .1 .0) (r .put-number .last .1 .1 .0) (d .pre)
+    three-parts 2 10 8 (d .args .out .now) (p .put-head .last .1 .0) (k .put-key .last .1 .0) (r .put-number .last .1 .0) (d .pre)
     (ap (λ (s : List ℕ). length s) (p .put-head .ensures)) (ap (λ (s : List ℕ). length s) (k .put-key .ensures) ∙ length-bytes keyBytes (keyNumber (d .args .h .key)))
-    ∙ ap₂ (λ (s t : List ℕ). s ++ t) (ap₂ (λ (s t : List ℕ). s ++ t) (p .put-head .ensures) (k .put-key .ensures)) (r .put-number .ensures)
+    ∙ ap₂ (λ (s t : List ℕ). s ++ t) (ap₂ (λ (s t : List ℕ). s ++ t) (p .put-head .ensures) (k .put-key .ensures)) (in-bytes 8 (d .args .h .registers) (r .put-number .ensures) (search needs))
 
 pub put-loaded-spec : {M : Type 1} → statement M
 put-loaded-spec =

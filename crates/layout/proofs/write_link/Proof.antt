@@ -4,6 +4,7 @@ use Prim.Native.Nat.{ℕ}
 use lib.ListN.{length}
 use Rattle.layout.specs.Layout.{linkBytes}
 use Rattle.katan.proofs.Numbers.{length-bytes}
+use Rattle.katan.proofs.Written.{in-bytes}
 use Rattle.layout.proofs.Turns.{three-parts}
 use borrow.Author.Needs.{needs}
 use Rattle.layout.proofs.write_link.Statement.{statement}
@@ -62,9 +63,11 @@ returns c =
     let l = t .before .before .before .before .before in
     let d = l .before .before .before .before .before in
     let link = d .args .link in
-    three-parts 4 4 40 (d .args .out .now) (l .put-number .last .1 .1 .0) (t .put-number2 .last .1 .1 .0) (r .put-record .last .1 .0) (d .pre)
-    (ap (λ (s : List ℕ). length s) (l .put-number .ensures) ∙ length-bytes 4 (link .last)) (ap (λ (s : List ℕ). length s) (t .put-number2 .ensures) ∙ length-bytes 4 (link .total))
-    ∙ ap₂ (λ (s t : List ℕ). s ++ t) (ap₂ (λ (s t : List ℕ). s ++ t) (l .put-number .ensures) (t .put-number2 .ensures)) (r .put-record .ensures)
+    let last = in-bytes 4 (link .last) (l .put-number .ensures) (search needs) in
+    let total = in-bytes 4 (link .total) (t .put-number2 .ensures) (search needs) in
+    three-parts 4 4 40 (d .args .out .now) (l .put-number .last .1 .0) (t .put-number2 .last .1 .0) (r .put-record .last .1 .0) (d .pre)
+    (ap (λ (s : List ℕ). length s) last ∙ length-bytes 4 (link .last)) (ap (λ (s : List ℕ). length s) total ∙ length-bytes 4 (link .total))
+    ∙ ap₂ (λ (s t : List ℕ). s ++ t) (ap₂ (λ (s t : List ℕ). s ++ t) last total) (r .put-record .ensures)
 
 pub write-link-spec : {M : Type 1} → statement M
 write-link-spec =

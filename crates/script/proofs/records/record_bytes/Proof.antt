@@ -1,11 +1,8 @@
 use borrow.Author.Needs.{needs}
-use mathlib.Core.Path.{ap, _∙_}
-use mathlib.Core.List.{List}
-use Prim.Native.Nat.{ℕ}
+use mathlib.Core.Path.{_∙_}
+use native.Mathlib.Omega.{arith}
 use lib.Dec.{lit≤}
-use lib.ListN.{set}
-use Rattle.katan.specs.Bit.{bytesOf}
-use Rattle.script.proofs.Bytes.{putAt, plain-record}
+use Rattle.script.proofs.Bytes.{number-length, mask-put, plain-record}
 use Rattle.script.proofs.records.record_bytes.Statement.{statement}
 use Rattle.script.proofs.records.record_bytes.Tie as tie
 
@@ -21,25 +18,40 @@ array-write-bytes-2 c = search needs
 array-write-bytes-3 : tie.Need-array-write-bytes-3
 array-write-bytes-3 c = search needs
 
-slice-aggregate-put-number : tie.Need-slice-aggregate-put-number
-slice-aggregate-put-number c = search needs
+sub-put-number : tie.Need-sub-put-number
+sub-put-number c = search needs
+
+part-bytes-start : tie.Need-part-bytes-start
+part-bytes-start c = search needs
+
+part-bytes-end : tie.Need-part-bytes-end
+part-bytes-end c = rw (c .zeros .ensures) (lit≤ tt)
 
 put-number-requires : tie.Need-put-number-requires
-put-number-requires c κs = rw (c .before .zeros .ensures) (lit≤ tt)
+put-number-requires c κs = search needs
 
-slice-aggregate-put-number-2 : tie.Need-slice-aggregate-put-number-2
-slice-aggregate-put-number-2 c = search needs
+sub-put-number-2 : tie.Need-sub-put-number-2
+sub-put-number-2 c = search needs
+
+part-bytes-start-2 : tie.Need-part-bytes-start-2
+part-bytes-start-2 c = search needs
+
+part-bytes-end-2 : tie.Need-part-bytes-end-2
+part-bytes-end-2 c =
+    let z = c .before .before .before in
+    let a = z .before .args in
+    let e = number-length (a .kind) (a .lane) (a .count) (a .number) (z .zeros .ensures) (c .before .put-number .ensures) in
+    omega (arith, e)
 
 put-number-requires-2 : tie.Need-put-number-requires-2
 put-number-requires-2 c κs = search needs
 
 returns : tie.Need-returns
 returns c =
-    let a = c .before .before .before .before .before .before .before .args in
-    c .before .put-number2 .ensures
-    ∙ ap (putAt 8 16 (bytesOf 8 (a .mask)))
-    (c .before .before .before .before .put-number .ensures
-    ∙ ap (λ (z : List ℕ). putAt 4 8 (bytesOf 4 (a .number)) (set (set (set z 0 (a .kind)) 1 (a .lane)) 2 (a .count))) (c .before .before .before .before .before .before .zeros .ensures))
+    let p = c .before .before .before .before in
+    let z = p .before .before in
+    let a = z .before .args in
+    mask-put (a .kind) (a .lane) (a .count) (a .number) (z .zeros .ensures) (p .put-number .ensures) (a .mask) (c .before .put-number2 .ensures)
     ∙ plain-record (a .kind) (a .lane) (a .count) (a .number) (a .mask)
 
 pub record-bytes-spec : {M : Type 1} → statement M
@@ -50,8 +62,12 @@ record-bytes-spec =
     array-write-bytes
     array-write-bytes-2
     array-write-bytes-3
-    slice-aggregate-put-number
+    sub-put-number
+    part-bytes-start
+    part-bytes-end
     put-number-requires
-    slice-aggregate-put-number-2
+    sub-put-number-2
+    part-bytes-start-2
+    part-bytes-end-2
     put-number-requires-2
     returns)
