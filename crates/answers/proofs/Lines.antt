@@ -1,22 +1,18 @@
 -- The printed lines fit their room.
 -- Assumes nothing.
-use Prim.Native.Nat.{ℕ, zero, suc, _+_, _-_, _/_, _≤_, _<_}
-use mathlib.Core.Path.{_≡_, refl, ap, ap₂, _∙_, subst⁻¹}
+use Prim.Native.Nat.{ℕ, zero, suc, _+_, _-_, _≤_, _<_}
+use mathlib.Core.Path.{_≡_, refl, ap, ap₂, _∙_}
 use mathlib.Core.List.{List, [], _∷_, _++_}
 use native.Mathlib.Nat.{sub-zero, zero-sub, suc-sub-suc}
 use native.Mathlib.Omega.{arith}
-use Rattle.katan.specs.declared.Row.{Row}
 use mathlib.Core.Bool.{Bool, true, false}
 use borrow.Author.Tests.{le-leb, lt-leb}
-use lib.Dec.{lit≤}
-use lib.ListN.{length, replicate, drop, length-append, List·getD-eq-default}
-use Rattle.katan.specs.Variant.{rows, row32, widthOf}
+use lib.ListN.{length, replicate, drop, length-append}
 use Rattle.text.proofs.Lengths.{decimal-most, length-fixed}
 use Rattle.answers.specs.declared.Printed.{Printed}
 use Rattle.bench.specs.Bench.{replyAnswer}
 use Rattle.bench.specs.declared.Reply.{Reply}
 use Rattle.bench.specs.declared.Reply.the-variants.{Done, Again, Refused}
-use Rattle.text.specs.Form.{blockDigits}
 use Rattle.answers.specs.Printed.{lineAs, answerLine, printedAs, room, fits}
 
 pub drop-zeros : (k n : ℕ) → drop {A = ℕ} k (replicate n 0) ≡ replicate (n - k) 0
@@ -44,17 +40,6 @@ module _ (n t : ℕ) where
 
   pub at-fits : (d x : ℕ) → d ≤ 16 → length (lineAs d "(at % % *)" (n ∷ t ∷ x ∷ [])) ≤ room
   at-fits d x h = simp length-append (omega (arith, decimal-most n, decimal-most t, length-fixed 16 d x))
-
-pub few-digits : (v : ℕ) → blockDigits v ≤ 16
-few-digits zero = lit≤ tt
-few-digits (suc zero) = lit≤ tt
-few-digits (suc (suc zero)) = lit≤ tt
-few-digits (suc (suc (suc zero))) = lit≤ tt
-few-digits (suc (suc (suc (suc zero)))) = lit≤ tt
-few-digits (suc (suc (suc (suc (suc zero))))) = lit≤ tt
-few-digits (suc (suc (suc (suc (suc (suc zero)))))) = lit≤ tt
-few-digits (suc (suc (suc (suc (suc (suc (suc v))))))) =
-    subst⁻¹ (λ (r : Row). r .n / 4 ≤ 16) (List·getD-eq-default rows row32 {n = suc (suc (suc (suc (suc (suc (suc v)))))) - 1} (omega arith)) (lit≤ tt)
 
 -- the answer to a record shows no lane and no registers
 pub reply-line : (v lane : ℕ) (r : Reply) → answerLine 0 0 (replyAnswer r) ≡ answerLine v lane (replyAnswer r)

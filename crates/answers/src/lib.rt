@@ -6,13 +6,11 @@ ghost use lib.ListN.{length, take, drop, replicate};
 ghost use Rattle.katan.specs.Checks.{numberOf, refused};
 ghost use Rattle.bench.specs.Bench.{replyAnswer, readingAnswer};
 ghost use Rattle.text.specs.Form.{fill};
-ghost use Rattle.text.specs.Form.{blockDigits};
 ghost use Rattle.answers.specs.Printed.{openedLine, answerLine, printedAs, placeAfter, outputWith};
 use crate::form::write_form;
 use bench::ReadAnswer;
 use bench::Reply;
 use katan::Refusal;
-use katan::RowAnswer;
 
 mod form;
 
@@ -54,16 +52,6 @@ fn filled(form: &[u8], values: [u64; 3], digits: usize) -> Printed
     }
 }
 
-// How many digits the blocks of a variant have; KATAN32's where there is no such variant.
-fn block_digits(variant: u8) -> usize
-    ensures { λ r. ⌜ (r ≡ blockDigits variant) × (r ≤ 16) ⌝ }
-{
-    match katan::row_of(variant) {
-        RowAnswer::Found(row) => row.n / 4,
-        RowAnswer::Refused(_) => katan::row_32().n / 4,
-    }
-}
-
 // The answer to a bench line that is accepted.
 pub fn opened_line(variant: u8) -> Printed
     ensures { λ r. ⌜ r ≡ printedAs (openedLine variant) ⌝ }
@@ -101,7 +89,7 @@ pub fn reading_line(variant: u8, lane: u8, answer: ReadAnswer) -> Printed
         ReadAnswer::At(position, registers) => filled(
             b"(at % % *)\n",
             [lane as u64, position.0 as u64, registers],
-            block_digits(variant),
+            text::block_digits(variant),
         ),
         ReadAnswer::Refused(reason) => refused_line(reason),
     }

@@ -19,20 +19,20 @@ use Rattle.text.specs.Form.{first, rest, fill, FieldsFit}
 use Rattle.command.specs.Written.{formOf, fieldsOf, written, Fits, lineLength}
 use Rattle.text.specs.Form.{blockDigits}
 use Rattle.command.specs.Reads.{Open, Stands, KeyHeld, IsLine, Reads}
-use Rattle.command.specs.Scan.{valueOf, begin, scan, whole}
+use Rattle.form.specs.Scan.{valueOf, begin, scan, whole}
 use Rattle.command.specs.Reading.{unopened, kindIn, numbered, numberedBy, openingIn, taken, benchIn, readIn, loadIn, forwardIn, backIn, clearIn, commandAs, commandOf, commandIn, front, benchForm, readForm, loadForm, forwardForm, backForm, clearForm}
 use Rattle.command.specs.declared.Command.{Command}
 use Rattle.command.specs.declared.Command.the-variants.{Bench, Read, Load, Forward, Back, Clear}
 use Rattle.command.specs.declared.Line.{Line}
 use Rattle.command.specs.declared.Line.the-variants.{Taken, Broken}
-use Rattle.command.specs.declared.form.Values.{Values}
-use Rattle.command.specs.declared.form.Fields.{Fields}
+use Rattle.form.specs.declared.Values.{Values}
+use Rattle.form.specs.declared.Fields.{Fields}
 use Rattle.command.specs.declared.lines.Kind.{Kind}
 use Rattle.command.specs.declared.lines.Kind.the-variants as K
 use Rattle.command.specs.declared.lines.Opening.{Opening}
-use Rattle.command.proofs.Blocks.{digits-fit}
-use Rattle.command.proofs.Steps.{value-of-decimal, pow-pos}
-use Rattle.command.proofs.Scans.{Scanned, WholeLine, at, after-text, ready, room, store, zeros, scan-complete, whole-sound, whole-complete, length-fill}
+use Rattle.text.proofs.Blocks.{digits-fit}
+use Rattle.form.proofs.Steps.{value-of-decimal, pow-pos}
+use Rattle.form.proofs.Scans.{Scanned, WholeLine, at, after-text, ready, room, store, zeros, scan-complete, whole-sound, whole-complete, length-fill}
 use Rattle.command.proofs.Openings.{keyIn, loadValues, load-stored, numbered-scanned, opening-bench, opening-read, opening-number}
 
 -- ---- a bench is open
@@ -90,14 +90,14 @@ read-by d line offset form make c e =
 abbrev pub headed : ℕ → List ℕ → List ℕ
 headed n body = 40 ∷ (decimal n ++ (32 ∷ 40 ∷ body))
 
-front-join : (vs body : List ℕ) → fill 0 front vs ++ body ≡ headed (first vs) body
+front-join : (vs body : List ℕ) → fill (blockDigits 0) front vs ++ body ≡ headed (first vs) body
 front-join vs body = ap (40 ∷_) (append-assoc (decimal (first vs)) (32 ∷ 40 ∷ []) body)
 
 record Headed (line : List ℕ) (offset n : ℕ) : Type 0 where
   head : line ≡ headed n (drop offset line)
   small : n ≤ 4294967295
 
-head-sound : (line : List ℕ) (f : Fields) → Scanned 0 line (begin 0) f front → Headed line (f .offset) (f .values .v5)
+head-sound : (line : List ℕ) (f : Fields) → Scanned (blockDigits 0) line (begin 0) f front → Headed line (f .offset) (f .values .v5)
 head-sound line f k =
     let n : first (k .values) ≡ f .values .v5 = sym (ap (λ (x : Values). x .v5) (k .stored)) in
     record {
@@ -112,14 +112,14 @@ module _ (v : ℕ) (line : List ℕ) (short : length line ≤ lineLength) where
   bench-sound : (c : Command) → benchIn line 0 ≡ Taken c → IsLine v line c
   unfolding benchIn
   bench-sound c e =
-      let k = read-by 0 line 0 benchForm (λ (x : Values). Bench (x .v5)) c e in
+      let k = read-by (blockDigits 0) line 0 benchForm (λ (x : Values). Bench (x .v5)) c e in
       subst (IsLine v line) (k .made) (record { text = k .text; fits = k .range; key = tt; short = short; stands = tt })
 
   module _ (is-open : Open v) where
     read-sound : (c : Command) → readIn line 0 ≡ Taken c → IsLine v line c
     unfolding readIn
     read-sound c e =
-        let k = read-by 0 line 0 readForm (λ (x : Values). Read (x .v5)) c e in
+        let k = read-by (blockDigits 0) line 0 readForm (λ (x : Values). Read (x .v5)) c e in
         subst (IsLine v line) (k .made) (record { text = k .text; fits = k .range; key = tt; short = short; stands = is-open })
 
     module _ (offset n : ℕ) (h : Headed line offset n) (c : Command) where
@@ -146,19 +146,19 @@ module _ (v : ℕ) (line : List ℕ) (short : length line ≤ lineLength) where
       forward-sound : forwardIn n line offset ≡ Taken c → IsLine v line c
       unfolding forwardIn
       forward-sound e =
-          let k = read-by 0 line offset forwardForm (λ (x : Values). Forward n (x .v4) (x .v5)) c e in
+          let k = read-by (blockDigits 0) line offset forwardForm (λ (x : Values). Forward n (x .v4) (x .v5)) c e in
           subst (IsLine v line) (k .made) (record { text = joined _ (k .text); fits = (h .small, k .range); key = tt; short = short; stands = is-open })
 
       back-sound : backIn n line offset ≡ Taken c → IsLine v line c
       unfolding backIn
       back-sound e =
-          let k = read-by 0 line offset backForm (λ (x : Values). Back n (x .v4) (x .v5)) c e in
+          let k = read-by (blockDigits 0) line offset backForm (λ (x : Values). Back n (x .v4) (x .v5)) c e in
           subst (IsLine v line) (k .made) (record { text = joined _ (k .text); fits = (h .small, k .range); key = tt; short = short; stands = is-open })
 
       clear-sound : clearIn n line offset ≡ Taken c → IsLine v line c
       unfolding clearIn
       clear-sound e =
-          let k = read-by 0 line offset clearForm (λ (x : Values). Clear n (x .v5)) c e in
+          let k = read-by (blockDigits 0) line offset clearForm (λ (x : Values). Clear n (x .v5)) c e in
           subst (IsLine v line) (k .made) (record { text = joined _ (k .text); fits = (h .small, k .range); key = tt; short = short; stands = is-open })
 
       record-sound : (x : ℕ) → commandAs v line offset n (kindIn x) ≡ Taken c → IsLine v line c
@@ -173,7 +173,7 @@ module _ (v : ℕ) (line : List ℕ) (short : length line ≤ lineLength) where
           go false false false false e = absurd (no-taken c e)
 
     abbrev f : Fields
-    f = scan 0 line (begin 0) front
+    f = scan (blockDigits 0) line (begin 0) front
 
     numbered-sound : (c : Command) → (let o = numbered line 0 in commandOf v line (o .offset) o) ≡ Taken c → IsLine v line c
     unfolding numbered commandOf
@@ -209,13 +209,13 @@ bench-complete : (v x : ℕ) (line : List ℕ) → IsLine v line (Bench x) → c
 unfolding commandIn commandOf benchIn valueOf
 bench-complete v x line k =
     let second : getD line 1 0 ≡ 98 = ap (λ (l : List ℕ). getD l 1 0) (k .text) in
-    ap (opened v line) (sym (opening-bench v line 0 (k .short) second)) ∙ taken-complete 0 line 0 benchForm (x ∷ []) (λ (y : Values). Bench (y .v5)) tt (k .fits) (k .text)
+    ap (opened v line) (sym (opening-bench v line 0 (k .short) second)) ∙ taken-complete (blockDigits 0) line 0 benchForm (x ∷ []) (λ (y : Values). Bench (y .v5)) tt (k .fits) (k .text)
 
 read-complete : (v x : ℕ) (line : List ℕ) → IsLine v line (Read x) → commandIn v line ≡ Taken (Read x)
 unfolding commandIn commandOf readIn valueOf
 read-complete v x line k =
     let second : getD line 1 0 ≡ 114 = ap (λ (l : List ℕ). getD l 1 0) (k .text) in
-    ap (opened v line) (sym (opening-read v line 0 (k .short) (λ e. omega (arith, e, second)) (open-to v (k .stands)) second)) ∙ taken-complete 0 line 0 readForm (x ∷ []) (λ (y : Values). Read (y .v5)) tt (k .fits) (k .text)
+    ap (opened v line) (sym (opening-read v line 0 (k .short) (λ e. omega (arith, e, second)) (open-to v (k .stands)) second)) ∙ taken-complete (blockDigits 0) line 0 readForm (x ∷ []) (λ (y : Values). Read (y .v5)) tt (k .fits) (k .text)
 
 -- a record line is read by the form that the letter after its number chooses
 record Chosen (v : ℕ) (line : List ℕ) (n : ℕ) (body : List ℕ) : Type 0 where
@@ -230,10 +230,10 @@ no-letter line body n p e h g =
 choose : (v : ℕ) (line : List ℕ) (n : ℕ) (body : List ℕ) → length line ≤ lineLength → Open v → n ≤ 4294967295 → line ≡ headed n body → Chosen v line n body
 unfolding commandIn commandOf numbered valueOf
 choose v line n body short is-open small e =
-    let text : line ≡ fill 0 front (n ∷ []) ++ body = e ∙ sym (front-join (n ∷ []) body) in
-    let o = 0 + length (fill 0 front (n ∷ [])) in
-    let f : scan 0 line (begin 0) front ≡ at (store 0 front (n ∷ []) zeros) o = scan-complete 0 line body zeros 0 front (n ∷ []) tt (small, tt) text in
-    let past : drop o line ≡ body = after-text line (fill 0 front (n ∷ [])) body 0 _ text refl in
+    let text : line ≡ fill (blockDigits 0) front (n ∷ []) ++ body = e ∙ sym (front-join (n ∷ []) body) in
+    let o = 0 + length (fill (blockDigits 0) front (n ∷ [])) in
+    let f : scan (blockDigits 0) line (begin 0) front ≡ at (store (blockDigits 0) front (n ∷ []) zeros) o = scan-complete (blockDigits 0) line body zeros 0 front (n ∷ []) tt (small, tt) text in
+    let past : drop o line ≡ body = after-text line (fill (blockDigits 0) front (n ∷ [])) body 0 _ text refl in
     let letter : getD line o 0 ≡ getD body 0 0 = ap (λ (i : ℕ). getD line i 0) (sym (add-zero o)) ∙ sym (getD-drop o line 0 0) ∙ ap (λ (l : List ℕ). getD l 0 0) past in
     record {
       offset = o;
@@ -257,16 +257,16 @@ complete v line (Load n lane position key block) k =
     ∙ ap (λ (x : Key). Taken (Load n lane position x block)) (number-key key (k .key))
 complete v line (Forward n mask count) k =
     let vs = mask ∷ count ∷ [] in
-    let w = choose v line n (fill 0 forwardForm vs) (k .short) (k .stands) (k .fits .0) (k .text) in
-    w .chosen ∙ taken-complete 0 line (w .offset) forwardForm vs (λ (x : Values). Forward n (x .v4) (x .v5)) tt (k .fits .1) (w .from)
+    let w = choose v line n (fill (blockDigits 0) forwardForm vs) (k .short) (k .stands) (k .fits .0) (k .text) in
+    w .chosen ∙ taken-complete (blockDigits 0) line (w .offset) forwardForm vs (λ (x : Values). Forward n (x .v4) (x .v5)) tt (k .fits .1) (w .from)
 complete v line (Back n mask count) k =
     let vs = mask ∷ count ∷ [] in
-    let w = choose v line n (fill 0 backForm vs) (k .short) (k .stands) (k .fits .0) (k .text) in
-    w .chosen ∙ taken-complete 0 line (w .offset) backForm vs (λ (x : Values). Back n (x .v4) (x .v5)) tt (k .fits .1) (w .from)
+    let w = choose v line n (fill (blockDigits 0) backForm vs) (k .short) (k .stands) (k .fits .0) (k .text) in
+    w .chosen ∙ taken-complete (blockDigits 0) line (w .offset) backForm vs (λ (x : Values). Back n (x .v4) (x .v5)) tt (k .fits .1) (w .from)
 complete v line (Clear n mask) k =
     let vs = mask ∷ [] in
-    let w = choose v line n (fill 0 clearForm vs) (k .short) (k .stands) (k .fits .0) (k .text) in
-    w .chosen ∙ taken-complete 0 line (w .offset) clearForm vs (λ (x : Values). Clear n (x .v5)) tt (k .fits .1) (w .from)
+    let w = choose v line n (fill (blockDigits 0) clearForm vs) (k .short) (k .stands) (k .fits .0) (k .text) in
+    w .chosen ∙ taken-complete (blockDigits 0) line (w .offset) clearForm vs (λ (x : Values). Clear n (x .v5)) tt (k .fits .1) (w .from)
 
 -- commandIn takes a line for a command exactly when it is that command's
 pub reads : (v : ℕ) (line : List ℕ) → Reads v line (commandIn v line)

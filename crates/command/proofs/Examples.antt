@@ -7,7 +7,7 @@ use Rattle.text.specs.Form.{bytes}
 use Rattle.text.specs.Digits.{digit, fixed, place, decimal}
 use Rattle.command.specs.Written.{written}
 use Rattle.text.specs.Form.{blockDigits}
-use Rattle.command.specs.Scan.{valueOf, runIn, decimalIn, digitsIn, letterIn, advance, scan, whole}
+use Rattle.form.specs.Scan.{valueOf, runIn, decimalIn, digitsIn, letterIn, advance, scan, whole}
 use Rattle.command.specs.Reading.{commandIn, kindIn, numbered, openingIn, benchIn, readIn, loadIn, forwardIn, backIn, clearIn, commandOf}
 use Rattle.command.specs.declared.Command.{Command}
 use Rattle.command.specs.declared.Command.the-variants.{Bench, Read, Load, Forward, Back, Clear}

@@ -7,24 +7,25 @@ use mathlib.Core.List.{List, [], _∷_}
 use native.Mathlib.Nat.{div-lt-iff-lt-mul}
 use native.Mathlib.Omega.{arith}
 use lib.Dec.{eqb, ltb, leb, lit<}
-use lib.ListN.{length, drop, getD}
+use lib.ListN.{length, getD, drop-of-length-le, List·getD-eq-default}
 use borrow.Author.Tests.{eq-eqb, ne-eqb, lt-ltb, le-ltb, le-leb}
 use Rattle.katan.specs.Bit.{pick}
 use Rattle.katan.specs.Checks.{variantCheck}
-use Rattle.text.specs.Form.{first, rest}
+use Rattle.text.specs.Form.{first, rest, blockDigits}
 use Rattle.command.specs.Written.{lineLength}
-use Rattle.command.specs.Scan.{begin, scan, whole}
+use Rattle.form.specs.Scan.{letterIn, begin, advance, scan, whole}
 use Rattle.command.specs.Reading.{unopened, kindIn, numberedBy, numbered, openingIn, taken, front, benchForm, readForm, loadForm, forwardForm, backForm, clearForm}
 use Rattle.command.specs.declared.Command.{Command}
 use Rattle.command.specs.declared.Line.{Line}
 use Rattle.command.specs.declared.Line.the-variants.{Taken, Broken}
-use Rattle.command.specs.declared.form.Values.{Values}
-use Rattle.command.specs.declared.form.Fields.{Fields}
+use Rattle.form.specs.declared.Values.{Values}
+use Rattle.form.specs.declared.Fields.{Fields}
 use Rattle.command.specs.declared.lines.Kind.{Kind}
 use Rattle.command.specs.declared.lines.Kind.the-variants as K
 use Rattle.command.specs.declared.lines.Opening.{Opening}
-use Rattle.command.proofs.Steps.{pow-pos}
-use Rattle.command.proofs.Scans.{Scanned, scan-sound, WholeLine, whole-sound, store, zeros}
+use Rattle.text.proofs.Blocks.{digits-fit}
+use Rattle.form.proofs.Steps.{pow-pos}
+use Rattle.form.proofs.Scans.{Scanned, scan-sound, WholeLine, whole-sound, store, zeros}
 
 -- ---- what the first bytes choose
 
@@ -54,9 +55,21 @@ module _ (v : ℕ) (line : List ℕ) (offset : ℕ) where
       unfolding openingIn
       opening-number m = rw (le-ltb lineLength (length line) short, ne-eqb second 98 n, f, ne-eqb second 114 m)
 
+-- no line opens at its end
+pub opening-out : (v : ℕ) (line : List ℕ) (offset : ℕ) → length line ≤ offset → openingIn v line offset ≡ unopened
+unfolding openingIn numbered scan advance letterIn
+opening-out v line offset h =
+    let e : getD line (offset + 1) 0 ≡ 0 = List·getD-eq-default line 0 (omega arith) in
+    rw (e, drop-of-length-le line h) (go (ltb lineLength (length line)) (variantCheck v .fault))
+  where
+    go : (a b : Bool) → pick a unopened (pick b unopened unopened) ≡ unopened
+    go true b = refl
+    go false true = refl
+    go false false = refl
+
 -- ---- a record's number
 
-module _ (line : List ℕ) (offset : ℕ) (f : Fields) (e : f ≡ scan 0 line (begin offset) front) where
+module _ (line : List ℕ) (offset : ℕ) (f : Fields) (e : f ≡ scan (blockDigits 0) line (begin offset) front) where
   pub numbered-is : f .ok ≡ true → record { kind = kindIn (getD line (f .offset) 0); number = f .values .v5; offset = f .offset } ≡ numbered line offset
   unfolding numbered
   numbered-is g = ap (λ (b : Bool). pick b (record { kind = kindIn (getD line (f .offset) 0); number = f .values .v5; offset = f .offset }) unopened) (sym g) ∙ ap (numberedBy line) e
@@ -65,9 +78,9 @@ module _ (line : List ℕ) (offset : ℕ) (f : Fields) (e : f ≡ scan 0 line (b
   unfolding numbered
   numbered-not g = ap (λ (b : Bool). pick b (record { kind = kindIn (getD line (f .offset) 0); number = f .values .v5; offset = f .offset }) unopened) (sym g) ∙ ap (numberedBy line) e
 
-  pub numbered-scanned : f .ok ≡ true → Scanned 0 line (begin offset) f front
+  pub numbered-scanned : f .ok ≡ true → Scanned (blockDigits 0) line (begin offset) f front
   numbered-scanned g =
-      subst (λ (x : Fields). Scanned 0 line (begin offset) x front) (sym e) (scan-sound 0 line (begin offset) front (subst (λ (x : Fields). x .ok ≡ true) e g))
+      subst (λ (x : Fields). Scanned (blockDigits 0) line (begin offset) x front) (sym e) (scan-sound (blockDigits 0) line (begin offset) front (subst (λ (x : Fields). x .ok ≡ true) e g))
 
   pub number-fits : f .ok ≡ true → f .values .v5 ≤ 4294967295
   number-fits g = let k = numbered-scanned g in subst (_≤ 4294967295) (sym (ap (λ (x : Values). x .v5) (k .stored))) (k .range .0)
@@ -119,8 +132,8 @@ pub record LoadFits (x : Values) : Type 0 where
   pub position : x .v2 ≤ 255
   pub high : x .v3 < 2 ^ 16
 
-pub load-fits : (d : ℕ) (line : List ℕ) (offset : ℕ) (f : Fields) → d ≤ 16 → f ≡ whole d line offset loadForm → f .ok ≡ true → LoadFits (f .values)
-load-fits d line offset f h e g =
-    let k = whole-found d line offset f loadForm e g in
-    let s : loadValues (k .values) ≡ f .values = sym (k .stored ∙ load-stored d (k .values) h) in
+pub load-fits : (v : ℕ) (line : List ℕ) (offset : ℕ) (f : Fields) → f ≡ whole (blockDigits v) line offset loadForm → f .ok ≡ true → LoadFits (f .values)
+load-fits v line offset f e g =
+    let k = whole-found (blockDigits v) line offset f loadForm e g in
+    let s : loadValues (k .values) ≡ f .values = sym (k .stored ∙ load-stored (blockDigits v) (k .values) (digits-fit v)) in
     subst LoadFits s (record { lane = k .range .0; position = k .range .1 .0; high = high-fits (keyIn (k .values)) (k .range .1 .1 .0) })

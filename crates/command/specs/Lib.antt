@@ -1,4 +1,3 @@
 pub mod Written
-pub mod Scan
 pub mod Reading
 pub mod Reads

@@ -1,23 +1,22 @@
 -- The reading of a line, from left to right: its first bytes choose the form, and the rest is read by it. Reads says what commandIn must be, so
 -- this definition need not be believed.
 -- Assumes nothing.
-use Prim.Native.Nat.{ℕ, _+_, _/_}
+use Prim.Native.Nat.{ℕ, _+_}
 use mathlib.Core.Bool.{Bool, true, false}
 use mathlib.Core.List.{List, [], _∷_}
 use lib.Dec.{ltb, eqb}
 use lib.ListN.{length, getD}
 use Rattle.katan.specs.Bit.{pick}
-use Rattle.katan.specs.Variant.{widthOf}
 use Rattle.katan.specs.Checks.{variantCheck}
-use Rattle.text.specs.Form.{bytes}
+use Rattle.text.specs.Form.{bytes, blockDigits}
 use Rattle.command.specs.Written.{lineLength}
-use Rattle.command.specs.Scan.{begin, scan, whole}
+use Rattle.form.specs.Scan.{begin, scan, whole}
 use Rattle.command.specs.declared.Command.{Command}
 use Rattle.command.specs.declared.Command.the-variants.{Bench, Read, Load, Forward, Back, Clear}
 use Rattle.command.specs.declared.Line.{Line}
 use Rattle.command.specs.declared.Line.the-variants.{Taken, Broken}
-use Rattle.command.specs.declared.form.Values.{Values}
-use Rattle.command.specs.declared.form.Fields.{Fields}
+use Rattle.form.specs.declared.Values.{Values}
+use Rattle.form.specs.declared.Fields.{Fields}
 use Rattle.command.specs.declared.lines.Kind.{Kind}
 use Rattle.command.specs.declared.lines.Kind.the-variants as K
 use Rattle.command.specs.declared.lines.Opening.{Opening}
@@ -55,7 +54,7 @@ abbrev pub numberedBy : List ℕ → Fields → Opening
 numberedBy line f = pick (f .ok) (record { kind = kindIn (getD line (f .offset) 0); number = f .values .v5; offset = f .offset }) unopened
 
 unfoldable pub numbered : List ℕ → ℕ → Opening
-numbered line offset = numberedBy line (scan 0 line (begin offset) front)
+numbered line offset = numberedBy line (scan (blockDigits 0) line (begin offset) front)
 
 -- the letter after the first parenthesis: b; on an open bench also r, or a record's number
 unfoldable pub openingIn : ℕ → List ℕ → ℕ → Opening
@@ -70,24 +69,24 @@ abbrev pub taken : Fields → (Values → Command) → Line
 taken f make = pick (f .ok) (Taken (make (f .values))) Broken
 
 unfoldable pub benchIn : List ℕ → ℕ → Line
-benchIn line offset = taken (whole 0 line offset benchForm) (λ (x : Values). Bench (x .v5))
+benchIn line offset = taken (whole (blockDigits 0) line offset benchForm) (λ (x : Values). Bench (x .v5))
 
 unfoldable pub readIn : List ℕ → ℕ → Line
-readIn line offset = taken (whole 0 line offset readForm) (λ (x : Values). Read (x .v5))
+readIn line offset = taken (whole (blockDigits 0) line offset readForm) (λ (x : Values). Read (x .v5))
 
 unfoldable pub loadIn : ℕ → ℕ → List ℕ → ℕ → Line
 loadIn v number line offset =
-    taken (whole (widthOf v / 4) line offset loadForm)
+    taken (whole (blockDigits v) line offset loadForm)
     (λ (x : Values). Load number (x .v1) (x .v2) (record { low = x .v4; high = x .v3 }) (x .v5))
 
 unfoldable pub forwardIn : ℕ → List ℕ → ℕ → Line
-forwardIn number line offset = taken (whole 0 line offset forwardForm) (λ (x : Values). Forward number (x .v4) (x .v5))
+forwardIn number line offset = taken (whole (blockDigits 0) line offset forwardForm) (λ (x : Values). Forward number (x .v4) (x .v5))
 
 unfoldable pub backIn : ℕ → List ℕ → ℕ → Line
-backIn number line offset = taken (whole 0 line offset backForm) (λ (x : Values). Back number (x .v4) (x .v5))
+backIn number line offset = taken (whole (blockDigits 0) line offset backForm) (λ (x : Values). Back number (x .v4) (x .v5))
 
 unfoldable pub clearIn : ℕ → List ℕ → ℕ → Line
-clearIn number line offset = taken (whole 0 line offset clearForm) (λ (x : Values). Clear number (x .v5))
+clearIn number line offset = taken (whole (blockDigits 0) line offset clearForm) (λ (x : Values). Clear number (x .v5))
 
 -- the command of a line that has opened
 abbrev pub commandAs : ℕ → List ℕ → ℕ → ℕ → Kind → Line

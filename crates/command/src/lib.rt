@@ -6,8 +6,6 @@ use crate::reader::opening;
 use crate::reader::reader_at;
 use katan::Key;
 
-mod digits;
-mod form;
 mod lines;
 mod reader;
 

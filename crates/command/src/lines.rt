@@ -1,14 +1,12 @@
 // The two steps of reading a line: its first bytes choose the form, and the rest is read by it.
 ghost use mathlib.Core.Path.{_≡_};
-ghost use Prim.Native.Nat.{_/_, _≤_};
 ghost use lib.ListN.{getD};
-ghost use Rattle.katan.specs.Variant.{widthOf};
 ghost use Rattle.command.specs.Reading.{unopened, kindIn, numbered, openingIn, benchIn, readIn, loadIn, forwardIn, backIn, clearIn, commandOf};
 use crate::Command;
 use crate::LINE_LENGTH;
 use crate::Line;
-use crate::form::fields_at;
-use crate::form::whole_at;
+use form::fields_at;
+use form::whole_at;
 use katan::Key;
 use katan::RowAnswer;
 
@@ -110,15 +108,7 @@ pub fn opening_at(line: &[u8], offset: usize, variant: u8) -> Opening
     }
 }
 
-// The digits of a block of a variant; KATAN32's where there is no such variant.
-pub fn block_digits(variant: u8) -> usize
-    ensures { λ r. ⌜ (r ≡ widthOf variant / 4) × (r ≤ 16) ⌝ }
-{
-    match katan::row_of(variant) {
-        RowAnswer::Found(row) => row.n / 4,
-        RowAnswer::Refused(_) => katan::row_32().n / 4,
-    }
-}
+// Of the forms only a load's has a block: no variant, 0, will do for the others.
 
 pub fn bench_at(line: &[u8], offset: usize) -> Line
     ensures { λ r. ⌜ r ≡ benchIn (now (line .entry)) offset ⌝ }
@@ -145,8 +135,7 @@ pub fn read_at(line: &[u8], offset: usize) -> Line
 pub fn load_at(line: &[u8], offset: usize, number: u32, variant: u8) -> Line
     ensures { λ r. ⌜ r ≡ loadIn variant number (now (line .entry)) offset ⌝ }
 {
-    let digits = block_digits(variant);
-    let found = whole_at(b"load % % (key &) (block *)))", line, offset, digits);
+    let found = whole_at(b"load % % (key &) (block *)))", line, offset, variant);
     if found.ok {
         let key = Key {
             low: found.values.v4,

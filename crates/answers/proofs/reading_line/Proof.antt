@@ -1,5 +1,7 @@
 use borrow.Author.Needs.{needs}
-use mathlib.Core.Path.{_∙_}
+use Prim.Native.Nat.{_≤_}
+use mathlib.Core.Path.{subst⁻¹}
+use Rattle.text.proofs.Blocks.{digits-fit}
 use Rattle.answers.specs.Printed.{answerLine}
 use Rattle.answers.proofs.Lines.{at-fits}
 use Rattle.answers.proofs.reading_line.Statement.{statement}
@@ -20,7 +22,7 @@ block-digits-requires c κs = search needs
 filled-requires : tie.Need-filled-requires
 filled-requires c κs =
     let g = c .before .before .before .before .answer .given .0 in
-    at-fits (c .before .before .before .before .before .before .args .lane) (g .0 .0) (c .block-digits .result) (g .1 .0) (c .block-digits .ensures .1)
+    at-fits (c .before .before .before .before .before .before .args .lane) (g .0 .0) (c .block-digits .result) (g .1 .0) (subst⁻¹ (_≤ 16) (c .block-digits .ensures) (digits-fit (c .before .before .before .before .before .before .args .variant)))
 
 enum-known-answer-2 : tie.Need-enum-known-answer-2
 enum-known-answer-2 c = search needs
@@ -30,7 +32,7 @@ refused-line-requires c κs = search needs
 
 returns : tie.Need-returns
 unfolding answerLine
-returns c = rw (c .before .before .before .before .before .answer .given .1, ← c .before .block-digits .ensures .0) (c .filled .ensures)
+returns c = rw (c .before .before .before .before .before .answer .given .1, ← c .before .block-digits .ensures) (c .filled .ensures)
 
 returns-2 : tie.Need-returns-2
 unfolding answerLine

@@ -9,7 +9,7 @@ use Rattle.command.proofs.lines.numbered_at.Statement.{statement}
 use Rattle.command.proofs.lines.numbered_at.Tie as tie
 use Rattle.command.proofs.lines.numbered_at.Reads as reads
 use Rattle.command.proofs.lines.numbered_at.Lts as lts
-use Rattle.command.proofs.form.fields_at.Reads as fields-at-reads
+use Rattle.form.proofs.fields_at.Reads as fields-at-reads
 use Rattle.command.proofs.lines.byte_at.Reads as byte-at-reads
 use Rattle.command.proofs.lines.kind_of.Reads as kind-of-reads
 use Rattle.command.proofs.lines.nothing_opened.Reads as nothing-opened-reads

@@ -1,7 +1,6 @@
 use mathlib.Core.Path.{_∙_, sym}
 use Rattle.katan.proofs.Variants.{row-found, row-refused}
-use Rattle.command.proofs.Fronts.{opening-out}
-use Rattle.command.proofs.Openings.{opening-long, opening-bench, opening-closed, opening-read, opening-number}
+use Rattle.command.proofs.Openings.{opening-out, opening-long, opening-bench, opening-closed, opening-read, opening-number}
 use borrow.Author.Needs.{needs}
 use Rattle.command.proofs.lines.opening_at.Statement.{statement}
 use Rattle.command.proofs.lines.opening_at.Tie as tie

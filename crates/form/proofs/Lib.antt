@@ -1,0 +1,4 @@
+mod Runs
+pub mod Steps
+mod Fronts
+pub mod Scans
