@@ -1,10 +1,10 @@
 -- A line is taken for a command exactly when it is that command's; no command's line is too long.
 -- Assumes nothing.
-use Prim.Native.Nat.{ℕ, zero, suc, _+_, _*_, _/_, _%_, _^_, _≤_, _<_}
+use Prim.Native.Nat.{ℕ, _+_, _/_, _%_, _^_, _≤_, _<_}
 use mathlib.Core.Path.{_≡_, refl, sym, ap, _∙_, subst}
 use mathlib.Core.Bool.{Bool, true, false}
 use mathlib.Core.List.{List, [], _∷_, _++_, append-assoc}
-use native.Mathlib.Nat.{mod-lt, lt-of-lt-of-le, lt-of-le-of-lt, lt-irrefl, div-eq-of-lt, mod-eq-of-lt, mul-add-div-right, mul-add-mod-self-right, div-add-mod', add-zero}
+use native.Mathlib.Nat.{mod-lt, lt-of-le-of-lt, lt-irrefl, div-eq-of-lt, mod-eq-of-lt, mul-add-div-right, mul-add-mod-self-right, div-add-mod', add-zero}
 use native.Mathlib.Omega.{arith}
 use lib.Dec.{T, eqb, ltb, leb, lit<, lit≤}
 use lib.ListN.{length, drop, getD}
@@ -14,7 +14,7 @@ use Rattle.katan.specs.Bit.{pick}
 use Rattle.katan.specs.Key.{keyNumber}
 use Rattle.katan.specs.Checks.{variantCheck}
 use Rattle.katan.specs.declared.Key.{Key}
-use Rattle.text.specs.Digits.{digit, fixed, place, decimal}
+use Rattle.text.specs.Digits.{decimal}
 use Rattle.text.specs.Form.{first, rest, fill, FieldsFit}
 use Rattle.command.specs.Written.{formOf, fieldsOf, written, Fits, lineLength}
 use Rattle.text.specs.Form.{blockDigits}
@@ -27,13 +27,12 @@ use Rattle.command.specs.declared.Line.{Line}
 use Rattle.command.specs.declared.Line.the-variants.{Taken, Broken}
 use Rattle.form.specs.declared.Values.{Values}
 use Rattle.form.specs.declared.Fields.{Fields}
-use Rattle.command.specs.declared.lines.Kind.{Kind}
 use Rattle.command.specs.declared.lines.Kind.the-variants as K
 use Rattle.command.specs.declared.lines.Opening.{Opening}
 use Rattle.text.proofs.Blocks.{digits-fit}
 use Rattle.form.proofs.Steps.{value-of-decimal, pow-pos}
-use Rattle.form.proofs.Scans.{Scanned, WholeLine, at, after-text, ready, room, store, zeros, scan-complete, whole-sound, whole-complete, length-fill}
-use Rattle.command.proofs.Openings.{keyIn, loadValues, load-stored, numbered-scanned, opening-bench, opening-read, opening-number}
+use Rattle.form.proofs.Scans.{Scanned, at, after-text, ready, room, store, zeros, scan-complete, whole-sound, whole-complete, length-fill}
+use Rattle.command.proofs.Openings.{keyIn, load-stored, numbered-scanned, opening-bench, opening-read, opening-number}
 
 -- ---- a bench is open
 

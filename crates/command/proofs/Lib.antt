@@ -1,3 +1,3 @@
-pub mod Openings
+mod Openings
 pub mod Exact
 pub mod Examples

@@ -3,10 +3,10 @@
 use Prim.Native.Nat.{ℕ, _+_, _/_, _%_, _^_, _≤_, _<_}
 use mathlib.Core.Path.{_≡_, refl, sym, ap, _∙_, subst}
 use mathlib.Core.Bool.{Bool, true, false}
-use mathlib.Core.List.{List, [], _∷_}
+use mathlib.Core.List.{List}
 use native.Mathlib.Nat.{div-lt-iff-lt-mul}
 use native.Mathlib.Omega.{arith}
-use lib.Dec.{eqb, ltb, leb, lit<}
+use lib.Dec.{ltb, lit<}
 use lib.ListN.{length, getD, drop-of-length-le, List·getD-eq-default}
 use borrow.Author.Tests.{eq-eqb, ne-eqb, lt-ltb, le-ltb, le-leb}
 use Rattle.katan.specs.Bit.{pick}
@@ -14,15 +14,12 @@ use Rattle.katan.specs.Checks.{variantCheck}
 use Rattle.text.specs.Form.{first, rest, blockDigits}
 use Rattle.command.specs.Written.{lineLength}
 use Rattle.form.specs.Scan.{letterIn, begin, advance, scan, whole}
-use Rattle.command.specs.Reading.{unopened, kindIn, numberedBy, numbered, openingIn, taken, front, benchForm, readForm, loadForm, forwardForm, backForm, clearForm}
+use Rattle.command.specs.Reading.{unopened, kindIn, numberedBy, numbered, openingIn, taken, front, benchForm, readForm, loadForm, forwardForm, backForm}
 use Rattle.command.specs.declared.Command.{Command}
-use Rattle.command.specs.declared.Line.{Line}
 use Rattle.command.specs.declared.Line.the-variants.{Taken, Broken}
 use Rattle.form.specs.declared.Values.{Values}
 use Rattle.form.specs.declared.Fields.{Fields}
-use Rattle.command.specs.declared.lines.Kind.{Kind}
 use Rattle.command.specs.declared.lines.Kind.the-variants as K
-use Rattle.command.specs.declared.lines.Opening.{Opening}
 use Rattle.text.proofs.Blocks.{digits-fit}
 use Rattle.form.proofs.Steps.{pow-pos}
 use Rattle.form.proofs.Scans.{Scanned, scan-sound, WholeLine, whole-sound, store, zeros}

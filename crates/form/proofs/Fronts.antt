@@ -12,7 +12,7 @@ use borrow.Author.Tests.{eq-eqb, ne-eqb}
 use Rattle.form.specs.Scan.{runIn, decimalOf, decimalIn, wordsOf, digitsIn, letterIn, begin, advance, scan, ended, whole}
 use Rattle.form.specs.declared.Fields.{Fields}
 use Rattle.form.specs.declared.digits.Run.{Run}
-use Rattle.form.specs.declared.pieces.Step.the-variants.{Wrong, Letter, Field, Words}
+use Rattle.form.specs.declared.pieces.Step.the-variants.{Wrong, Letter}
 use Rattle.form.proofs.Steps.{run-within}
 
 module _ (line : List ℕ) (offset : ℕ) where

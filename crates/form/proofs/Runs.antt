@@ -1,16 +1,16 @@
 -- Runs of digits: what is found is what is written, and what is written is found.
 -- Assumes nothing.
 use Prim.Native.Nat.{ℕ, zero, suc, _+_, _*_, _-_, _/_, _%_, _^_, _≤_, _<_}
-use mathlib.Core.Path.{_≡_, refl, sym, ap, _∙_, subst}
+use mathlib.Core.Path.{_≡_, refl, ap, _∙_}
 use mathlib.Core.Bool.{Bool, true, false}
 use mathlib.Core.List.{List, [], _∷_, _++_}
-use native.Mathlib.Nat.{pow-suc, pow-zero, div-one, div-div-eq-div-mul, div-add-mod', mod-lt, mul-add-div-right, mul-add-mod-self-right, div-eq-of-lt, mod-eq-of-lt, add-zero, add-suc, le-of-suc-le-suc, not-suc-le-zero, lt-irrefl, lt-of-lt-of-le, mul-le-mul-left, pow-le-pow-right, sub-zero}
+use native.Mathlib.Nat.{pow-suc, div-add-mod', mod-lt, mul-add-div-right, mul-add-mod-self-right, div-eq-of-lt, mod-eq-of-lt, add-zero, le-of-suc-le-suc, not-suc-le-zero, lt-irrefl, lt-of-lt-of-le, mul-le-mul-left, pow-le-pow-right}
 use native.Mathlib.Numerals.{add-one}
 use lib.Seq.{drop-cons}
 use native.Mathlib.Omega.{arith}
-use lib.Dec.{T, ltb, leb, eqb}
+use lib.Dec.{ltb, leb}
 use lib.ListN.{length, drop, getD, drop-of-length-le}
-use borrow.Author.Tests.{lt-ltb, le-ltb, le-leb, lt-leb, ltb-true, ltb-false, leb-true, leb-false, eqb-true}
+use borrow.Author.Tests.{lt-ltb, le-ltb, le-leb, lt-leb, ltb-true, ltb-false, leb-true}
 use Rattle.text.specs.Digits.{digit, fixed}
 use Rattle.text.proofs.Lengths.{div-none, div-step}
 use Rattle.katan.specs.Bit.{pick}
@@ -30,7 +30,7 @@ value-digit d h = go (ltb d 10) refl
         let f : 10 ≤ d = ltb-false _ _ e in
         simp (e, le-ltb (87 + d) 48 (omega arith), lt-leb (87 + d) 57 (omega arith), le-ltb (87 + d) 97 (omega arith), le-leb (87 + d) 102 (omega arith)) (omega arith)
 
-pub digit-value : (x : ℕ) → valueOf x < 16 → digit (valueOf x) ≡ x
+digit-value : (x : ℕ) → valueOf x < 16 → digit (valueOf x) ≡ x
 unfolding valueOf digit
 digit-value x h = go (ltb x 48) (leb x 57) (ltb x 97) (leb x 102) refl refl refl refl
   where
@@ -48,23 +48,23 @@ digit-value x h = go (ltb x 48) (leb x 57) (ltb x 97) (leb x 102) refl refl refl
     go false false false false d e f g = absurd (lt-irrefl 16 (simp (d, e, f, g) at h))
 
 -- one digit further
-pub digit-step : (b k n : ℕ) → n / b ^ suc k * b + n / b ^ k % b ≡ n / b ^ k
+digit-step : (b k n : ℕ) → n / b ^ suc k * b + n / b ^ k % b ≡ n / b ^ k
 digit-step b k n = rw (div-step b k n) (div-add-mod' (n / b ^ k) b)
 
-pub run-go : (b k v n x : ℕ) (s : List ℕ) → valueOf x < b → runIn b (suc k) v n (x ∷ s) ≡ runIn b k (v * b + valueOf x) (n + 1) s
+run-go : (b k v n x : ℕ) (s : List ℕ) → valueOf x < b → runIn b (suc k) v n (x ∷ s) ≡ runIn b k (v * b + valueOf x) (n + 1) s
 unfolding runIn
 run-go b k v n x s h = simp (lt-ltb _ _ h)
 
-pub run-stop : (b k v n x : ℕ) (s : List ℕ) → b ≤ valueOf x → runIn b (suc k) v n (x ∷ s) ≡ record { value = v; count = n }
+run-stop : (b k v n x : ℕ) (s : List ℕ) → b ≤ valueOf x → runIn b (suc k) v n (x ∷ s) ≡ record { value = v; count = n }
 unfolding runIn
 run-stop b k v n x s h = simp (le-ltb _ _ h)
 
-pub run-end : (b k v n : ℕ) → runIn b k v n [] ≡ record { value = v; count = n }
+run-end : (b k v n : ℕ) → runIn b k v n [] ≡ record { value = v; count = n }
 unfolding runIn
 run-end b zero v n = refl
 run-end b (suc k) v n = refl
 
-pub run-done : (b v n : ℕ) (s : List ℕ) → runIn b 0 v n s ≡ record { value = v; count = n }
+run-done : (b v n : ℕ) (s : List ℕ) → runIn b 0 v n s ≡ record { value = v; count = n }
 unfolding runIn
 run-done b v n s = refl
 

@@ -1,10 +1,10 @@
 -- A form is scanned exactly where the line is the form filled with the values found.
 -- Assumes nothing.
-use Prim.Native.Nat.{ℕ, zero, suc, _+_, _*_, _-_, _/_, _%_, _^_, _≤_, _<_}
+use Prim.Native.Nat.{ℕ, suc, _+_, _*_, _-_, _/_, _%_, _^_, _≤_, _<_}
 use mathlib.Core.Path.{_≡_, refl, sym, ap, _∙_, subst}
 use mathlib.Core.Bool.{Bool, true, false, not, _&&_, false≢true}
 use mathlib.Core.List.{List, [], _∷_, _++_, append-assoc, append-nil}
-use native.Mathlib.Nat.{add-assoc, add-zero, div-eq-of-lt, mod-eq-of-lt, mul-add-div-right, mul-add-mod-self-right}
+use native.Mathlib.Nat.{add-zero, div-eq-of-lt, mod-eq-of-lt, mul-add-div-right, mul-add-mod-self-right}
 use native.Mathlib.Omega.{arith}
 use lib.Dec.{T, ltb, leb, eqb, leb→le}
 use lib.ListN.{length, drop, length-append, length-drop, drop-of-length-le}
@@ -14,14 +14,14 @@ use Rattle.katan.specs.Bit.{pick}
 use Rattle.katan.proofs.Tables.{both, both-left, both-right}
 use Rattle.text.specs.Digits.{decimal, hex}
 use Rattle.text.specs.Form.{Piece, letter, number, digits, pieceOf, first, rest, fill, fillPiece, FieldsFit, fitsPiece}
-use Rattle.form.specs.Scan.{valueOf, runIn, decimalOf, decimalIn, wordOf, wordsOf, digitsIn, letterIn, pieceIn, push, begin, after, advance, scan, ended, whole}
+use Rattle.form.specs.Scan.{valueOf, runIn, decimalIn, digitsIn, letterIn, pieceIn, push, begin, after, advance, scan, ended, whole}
 use Rattle.form.specs.declared.pieces.Step.{Step}
 use Rattle.form.specs.declared.pieces.Step.the-variants.{Wrong, Letter, Field, Words}
 use Rattle.form.specs.declared.Values.{Values}
 use Rattle.form.specs.declared.Fields.{Fields}
 use Rattle.form.proofs.Runs.{Halts}
 use Rattle.text.proofs.Lengths.{length-fixed}
-use Rattle.form.proofs.Steps.{Found, Halves, length-decimal, pow-pos, stepOf, decimal-sound, digits-sound, words-sound, letter-sound, decimal-complete, digits-complete, letter-complete}
+use Rattle.form.proofs.Steps.{length-decimal, pow-pos, decimal-sound, digits-sound, words-sound, letter-sound, decimal-complete, digits-complete, letter-complete}
 
 -- ---- a piece answers with its own kind
 

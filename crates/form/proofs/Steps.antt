@@ -4,13 +4,13 @@ use Prim.Native.Nat.{ℕ, zero, suc, _+_, _*_, _-_, _/_, _%_, _^_, _≤_, _<_}
 use mathlib.Core.Path.{_≡_, refl, sym, ap, _∙_, subst}
 use mathlib.Core.Bool.{Bool, true, false}
 use mathlib.Core.List.{List, [], _∷_, _++_, append-assoc}
-use native.Mathlib.Nat.{pow-suc, div-eq-of-lt, mod-eq-of-lt, div-lt-iff-lt-mul, one-le-pow, lt-of-lt-of-le, lt-of-le-of-lt, le-trans, pow-le-pow-right, not-suc-le-zero, le-of-suc-le-suc, mod-lt, lt-irrefl, le-div-iff-mul-le, one-mul, zero-add, add-zero, suc-add, suc-mul, mul-comm, mul-assoc, mul-le-mul-right, mul-add-div-right, mul-add-mod-self-right, div-div-eq-div-mul, div-add-mod'}
+use native.Mathlib.Nat.{pow-suc, div-eq-of-lt, mod-eq-of-lt, div-lt-iff-lt-mul, one-le-pow, lt-of-lt-of-le, le-trans, mod-lt, lt-irrefl, le-div-iff-mul-le, one-mul, zero-add, add-zero, suc-add, suc-mul, mul-comm, mul-assoc, mul-le-mul-right, mul-add-div-right, mul-add-mod-self-right, div-div-eq-div-mul, div-add-mod'}
 use native.Mathlib.Omega.{arith}
 use lib.Dec.{ltb, leb, eqb, lit<, lit≤}
 use lib.ListN.{length, drop, getD, length-append, length-drop}
-use lib.Seq.{drop-append-seam, drop-drop, drop-at}
+use lib.Seq.{drop-drop, drop-at}
 use lib.Pow.{pow-add}
-use borrow.Author.Tests.{lt-ltb, le-ltb, le-leb, lt-leb, ltb-true, ltb-false, leb-true, leb-false, eqb-true, eqb-false, eq-eqb, ne-eqb}
+use borrow.Author.Tests.{lt-ltb, le-ltb, ltb-false, leb-true, leb-false, eqb-true, eqb-false, eq-eqb, ne-eqb}
 use Rattle.text.specs.Digits.{digit, fixed, place, decimal, hex}
 use Rattle.text.proofs.Lengths.{length-fixed, ten, place-is}
 use Rattle.katan.specs.Bit.{pick}
@@ -160,7 +160,7 @@ word-complete k v s h =
 -- ---- and in two
 
 -- the digits of a number in two parts
-pub fixed-join : (b j k n : ℕ) → fixed b (j + k) n ≡ fixed b j (n / b ^ k) ++ fixed b k n
+fixed-join : (b j k n : ℕ) → fixed b (j + k) n ≡ fixed b j (n / b ^ k) ++ fixed b k n
 unfolding fixed
 fixed-join b zero k n = ap (λ (i : ℕ). fixed b i n) (zero-add k)
 fixed-join b (suc j) k n =

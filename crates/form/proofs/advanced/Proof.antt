@@ -2,7 +2,7 @@ use Prim.Native.Nat.{_-_, _≤_}
 use mathlib.Core.Path.{_∙_, sym, ap}
 use lib.ListN.{length}
 use Rattle.form.specs.Scan.{after}
-use Rattle.form.specs.declared.pieces.Step.the-variants.{Wrong, Letter, Field, Words}
+use Rattle.form.specs.declared.pieces.Step.the-variants.{Letter, Field, Words}
 use Rattle.form.proofs.Scans.{inside, not-true, not-false, advance-stays, advance-after}
 use borrow.Author.Needs.{needs}
 use Rattle.form.proofs.advanced.Statement.{statement}

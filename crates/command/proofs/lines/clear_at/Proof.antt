@@ -1,4 +1,3 @@
-use Prim.Native.Nat.{_≤_}
 use Rattle.text.specs.Form.{blockDigits}
 use Rattle.form.specs.Scan.{whole}
 use Rattle.command.specs.Reading.{clearIn, clearForm}

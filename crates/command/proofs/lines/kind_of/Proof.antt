@@ -1,4 +1,4 @@
-use borrow.Author.Tests.{eq-eqb, ne-eqb}
+use borrow.Author.Tests.{ne-eqb}
 use Rattle.command.specs.Reading.{kindIn}
 use Rattle.command.proofs.lines.kind_of.Statement.{statement}
 use Rattle.command.proofs.lines.kind_of.Tie as tie

@@ -2,7 +2,6 @@ use Prim.Native.Nat.{_≤_}
 use mathlib.Core.Path.{_∙_, ap}
 use Rattle.command.specs.Reading.{kindIn}
 use Rattle.command.specs.declared.lines.Kind.{Kind}
-use Rattle.command.specs.declared.lines.Opening.{Opening}
 use Rattle.command.proofs.Openings.{numbered-is, numbered-not, number-fits}
 use borrow.Author.Needs.{needs}
 use Rattle.command.proofs.lines.numbered_at.Statement.{statement}

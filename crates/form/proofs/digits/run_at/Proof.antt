@@ -1,9 +1,9 @@
 use borrow.Author.Needs.{needs}
 use Prim.Native.Nat.{_+_, _-_, _≤_, _<_, _^_}
-use mathlib.Core.Path.{_≡_, refl, sym, _∙_}
+use mathlib.Core.Path.{_≡_, sym, _∙_}
 use native.Mathlib.Nat.{sub-zero}
 use native.Mathlib.Omega.{arith}
-use lib.ListN.{length, drop}
+use lib.ListN.{drop}
 use Rattle.form.specs.Scan.{runIn}
 use Rattle.form.proofs.Runs.{loop-out, loop-full, loop-stop, loop-go, value-below, value-fits}
 use Rattle.form.proofs.digits.run_at.Statement.{statement}

@@ -1,5 +1,4 @@
 use borrow.Author.Needs.{needs}
-use mathlib.Core.Path.{_∙_}
 use borrow.Author.Tests.{eq-eqb, ne-eqb, lt-ltb, le-ltb}
 use Rattle.form.proofs.Fronts.{decimal-out, decimal-front}
 use Rattle.form.proofs.pieces.decimal_at.Statement.{statement}
