@@ -1,9 +1,9 @@
 -- A line that has begun, and the part of a piece that goes on with it.
 -- Assumes nothing.
-use Prim.Native.Nat.{ℕ, zero, suc, _+_, _≤_, _<_, min}
+use Prim.Native.Nat.{ℕ, suc, _+_, _≤_, _<_, min}
 use mathlib.Core.Path.{_≡_, refl, sym, ap, ap₂, _∙_}
 use mathlib.Core.Bool.{Bool, true, false}
-use mathlib.Core.List.{List, [], _∷_, _++_, append-nil}
+use mathlib.Core.List.{List, [], _∷_, append-nil}
 use native.Mathlib.Nat.{not-suc-le-zero, le-of-suc-le-suc}
 use native.Mathlib.Numerals.{add-one}
 use native.Mathlib.Omega.{arith}
@@ -18,8 +18,8 @@ use Rattle.script.specs.Pieces.{pendingRoom, kept, emptied, lineIn, onLi
 use Rattle.script.specs.declared.Pending.{Pending}
 use Rattle.script.specs.declared.Script.{Script}
 use Rattle.script.specs.declared.Step.{Step}
-use Rattle.script.specs.declared.Turn.{Turn}
-use Rattle.script.specs.Session.{sessionLine, turnOf}
+use Rattle.interpreter.specs.declared.Turn.{Turn}
+use Rattle.interpreter.specs.Session.{sessionLine, turnOf}
 
 -- ---- one turn of the loop that looks for a line feed
 

@@ -1,6 +1,6 @@
 -- An input in pieces prints what its lines print, however it is cut.
 -- Assumes nothing.
-use Prim.Native.Nat.{ℕ, zero, suc, _+_, _≤_, _<_, min}
+use Prim.Native.Nat.{ℕ, suc, _+_, _≤_, _<_, min}
 use mathlib.Core.Path.{_≡_, refl, sym, ap, ap₂, _∙_}
 use mathlib.Core.Bool.{Bool, true, false}
 use mathlib.Core.List.{List, [], _∷_, _++_, append-assoc, append-nil}
@@ -12,15 +12,15 @@ use borrow.Author.Tests.{leb-true, leb-false, ltb-true, ltb-false, eqb-true, eq-
 use Rattle.katan.specs.Bit.{pick}
 use Rattle.answers.specs.Printed.{lineFeed}
 use Rattle.command.specs.Reading.{commandIn}
-use Rattle.script.specs.Interpreter.{takesAs, onLine, outputOf}
-use Rattle.script.specs.Session.{noBench, variantOf, openBench, sessionTransition, sessionLine}
+use Rattle.interpreter.specs.Interpreter.{takesAs, onLine, outputOf}
+use Rattle.interpreter.specs.Session.{noBench, variantOf, openBench, sessionTransition, sessionLine}
 use Rattle.script.specs.Lines.{before, linesOf}
 use Rattle.script.specs.Pieces.{pendingRoom, kept, emptied, lineIn, started, onLineFeed, onByte, onBytes, atEnd, outputInPieces}
 use Rattle.script.specs.Claim.{joined}
-use Rattle.script.specs.declared.Session.{Session}
+use Rattle.interpreter.specs.declared.Session.{Session}
 use Rattle.script.specs.declared.Pending.{Pending}
 use Rattle.script.specs.declared.Script.{Script}
-use Rattle.script.proofs.Taken.{long-broken}
+use Rattle.interpreter.proofs.Taken.{long-broken}
 use Rattle.script.proofs.Begun.{holding}
 
 abbrev output : Session → List (List ℕ) → List ℕ

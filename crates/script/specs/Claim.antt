@@ -3,8 +3,8 @@
 use Prim.Native.Nat.{ℕ}
 use mathlib.Core.Path.{_≡_}
 use mathlib.Core.List.{List, [], _∷_, _++_}
-use Rattle.script.specs.Interpreter.{outputOf}
-use Rattle.script.specs.Session.{Machines, none, fresh, machinesVariant, machinesTransition}
+use Rattle.interpreter.specs.Interpreter.{outputOf}
+use Rattle.interpreter.specs.Session.{none, fresh, machinesVariant, machinesTransition}
 use Rattle.script.specs.Lines.{linesOf}
 use Rattle.script.specs.Pieces.{started, outputInPieces}
 

@@ -7,8 +7,8 @@ use lib.ListN.{length, take, set, replicate}
 use Rattle.katan.specs.Bit.{pick}
 use Rattle.answers.specs.Printed.{lineFeed, printedAs}
 use Rattle.command.specs.Written.{lineLength}
-use Rattle.script.specs.Session.{noBench, sessionLine}
-use Rattle.script.specs.declared.Session.{Session}
+use Rattle.interpreter.specs.Session.{noBench, sessionLine}
+use Rattle.interpreter.specs.declared.Session.{Session}
 use Rattle.script.specs.declared.Pending.{Pending}
 use Rattle.script.specs.declared.Script.{Script}
 use Rattle.script.specs.declared.Step.{Step}

@@ -6,7 +6,7 @@ use mathlib.Core.List.{List}
 use Prim.Native.Nat.{ℕ}
 use native.Mathlib.Omega.{arith}
 use lib.ListN.{length}
-use Rattle.script.specs.Session.{sessionLine, turnOf}
+use Rattle.interpreter.specs.Session.{sessionLine, turnOf}
 use Rattle.script.proofs.Begun.{shown-all}
 use Rattle.script.proofs.ended.Statement.{statement}
 use Rattle.script.proofs.ended.Tie as tie

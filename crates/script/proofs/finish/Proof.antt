@@ -1,12 +1,8 @@
 use borrow.Author.Needs.{needs}
-use mathlib.Core.Path.{ap, sym, _∙_}
-use mathlib.Core.List.{List, []}
-use mathlib.Core.Bool.{Bool}
-use Prim.Native.Nat.{ℕ}
+use mathlib.Core.Path.{ap}
 use borrow.Author.Tests.{eq-eqb, ne-eqb}
-use Rattle.answers.specs.Printed.{printedAs}
 use Rattle.script.specs.Pieces.{atEnd}
-use Rattle.script.specs.declared.Turn.{Turn}
+use Rattle.interpreter.specs.declared.Turn.{Turn}
 use Rattle.script.proofs.finish.Statement.{statement}
 use Rattle.script.proofs.finish.Tie as tie
 

@@ -1,11 +1,6 @@
 use borrow.Author.Needs.{needs}
 use lib.Seq.{length-take-le}
-use mathlib.Core.Path.{_≡_, sym, ap, ap₂, _∙_}
-use mathlib.Core.List.{List, []}
-use Prim.Native.Nat.{ℕ, suc, _+_}
-use native.Mathlib.Numerals.{add-one}
-use native.Mathlib.Omega.{arith}
-use Rattle.script.specs.Pieces.{lineEnd, keptAll}
+use mathlib.Core.Path.{sym}
 use Rattle.script.proofs.Begun.{none-step, line-step}
 use Rattle.script.proofs.take_piece.Statement.{statement}
 use Rattle.script.proofs.take_piece.Tie as tie

@@ -2,7 +2,7 @@
 ghost use mathlib.Core.Path.{_≡_};
 ghost use lib.ListN.{replicate};
 ghost use Rattle.katan.specs.Key.{keyNumber};
-ghost use Rattle.script.specs.Record.{recordBytes};
+ghost use Rattle.interpreter.specs.Record.{recordBytes};
 use katan::Key;
 use record::LENGTH;
 

@@ -13,8 +13,6 @@ use Rattle.bench.specs.Calls.{Call, arrival, reading, Answer, stateAfter, answe
 use Rattle.bench.specs.Checks.{Turn, counts, repeats, decision}
 use Rattle.bench.specs.Model.{Model, freshModel, modelTransition}
 use Rattle.bench.specs.Bench.{State, freshState, benchTransition, arriveOf, effectAs, countedEffect, benchView}
-use Rattle.bench.specs.declared.Bench.{Bench}
-use Rattle.bench.specs.declared.Link.{Link}
 use Rattle.bench.proofs.Lists.{every-list}
 use Rattle.answers.specs.Printed.{answerLine}
 use Rattle.command.specs.declared.Command.{Command}
@@ -23,10 +21,10 @@ use Rattle.command.specs.declared.Line.{Line}
 use Rattle.command.specs.declared.Line.the-variants.{Taken, Broken}
 use Rattle.command.specs.Reading.{commandIn}
 use Rattle.command.specs.Reads.{Open, Stands}
-use Rattle.script.specs.Interpreter.{opensAs, opens, calls, obeys, takesAs, onLine, outputOf}
-use Rattle.script.specs.Session.{noBench, openBench, variantOf, stateOf, sessionTransition, sessionLine, Machines, none, running, fresh, machinesVariant, machinesTransition, machinesLine}
-use Rattle.script.specs.declared.Session.{Session}
-use Rattle.script.proofs.Taken.{may-stand}
+use Rattle.interpreter.specs.Interpreter.{opensAs, calls, obeys, takesAs, onLine, outputOf}
+use Rattle.interpreter.specs.Session.{noBench, openBench, variantOf, stateOf, sessionTransition, sessionLine, Machines, none, running, fresh, machinesVariant, machinesTransition, machinesLine}
+use Rattle.interpreter.specs.declared.Session.{Session}
+use Rattle.interpreter.proofs.Taken.{may-stand}
 
 -- ---- one call more at the end of a list
 

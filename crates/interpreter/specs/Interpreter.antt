@@ -11,7 +11,7 @@ use Rattle.command.specs.declared.Command.the-variants.{Bench, Read, Load, Forw
 use Rattle.command.specs.declared.Line.{Line}
 use Rattle.command.specs.declared.Line.the-variants.{Taken, Broken}
 use Rattle.command.specs.Reading.{commandIn}
-use Rattle.script.specs.Record.{recordBytes}
+use Rattle.interpreter.specs.Record.{recordBytes}
 
 module _ {S : Type 0} (variantIn : S → ℕ) (fresh : ℕ → S) (transition : S → Call → S × Answer) where
   -- a bench line opens a fresh bench and link; one that is refused keeps the earlier

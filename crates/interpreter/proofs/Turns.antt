@@ -5,8 +5,8 @@ use mathlib.Core.Path.{_≡_, refl, sym, ap, ap₂, _∙_}
 use mathlib.Core.List.{List, [], _∷_}
 use Rattle.katan.specs.Checks.{numberOf, Outcome, value, refused, checked, variantCheck}
 use Rattle.katan.specs.declared.Refusal.{Refusal}
-use Rattle.bench.specs.Calls.{Call, arrival, reading, Answer}
-use Rattle.bench.specs.Bench.{Effect, State, effectOf, arriveOf, readOf, replyAnswer, readingAnswer, benchTransition, afterEffect}
+use Rattle.bench.specs.Calls.{reading, Answer}
+use Rattle.bench.specs.Bench.{Effect, effectOf, arriveOf, readOf, replyAnswer, readingAnswer, benchTransition, afterEffect}
 use Rattle.bench.specs.declared.Arrival.{Arrival}
 use Rattle.bench.specs.declared.ReadAnswer.{ReadAnswer}
 use Rattle.stepping.specs.Answers.{openOutcome}
@@ -16,12 +16,12 @@ use Rattle.answers.specs.Printed.{openedLine, answerLine, printedAs}
 use Rattle.answers.specs.declared.Printed.{Printed}
 use Rattle.answers.proofs.Lines.{reply-line}
 use Rattle.command.specs.declared.Line.{Line}
-use Rattle.command.specs.declared.Line.the-variants.{Taken, Broken}
+use Rattle.command.specs.declared.Line.the-variants.{Broken}
 use Rattle.command.specs.Reading.{commandIn}
-use Rattle.script.specs.Interpreter.{opens, opensAs, calls, sends, takesAs, onLine}
-use Rattle.script.specs.Session.{openBench, variantOf, stateOf, called, sessionTransition, sessionLine, turnOf}
-use Rattle.script.specs.declared.Session.{Session}
-use Rattle.script.specs.declared.Turn.{Turn}
+use Rattle.interpreter.specs.Interpreter.{opens, opensAs, calls, sends, takesAs, onLine}
+use Rattle.interpreter.specs.Session.{openBench, variantOf, called, sessionTransition, sessionLine, turnOf}
+use Rattle.interpreter.specs.declared.Session.{Session}
+use Rattle.interpreter.specs.declared.Turn.{Turn}
 
 turn-with : Session → Printed → Turn
 turn-with x p = record { session = x; printed = p }

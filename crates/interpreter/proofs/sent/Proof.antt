@@ -1,7 +1,7 @@
 use borrow.Author.Needs.{needs}
-use Rattle.script.proofs.Turns.{sent-turn}
-use Rattle.script.proofs.sent.Statement.{statement}
-use Rattle.script.proofs.sent.Tie as tie
+use Rattle.interpreter.proofs.Turns.{sent-turn}
+use Rattle.interpreter.proofs.sent.Statement.{statement}
+use Rattle.interpreter.proofs.sent.Tie as tie
 
 slice-aggregate-arrive-once : tie.Need-slice-aggregate-arrive-once
 slice-aggregate-arrive-once c = search needs

@@ -2,9 +2,9 @@ use borrow.Author.Needs.{needs}
 use mathlib.Core.Path.{_∙_}
 use native.Mathlib.Omega.{arith}
 use lib.Dec.{lit≤}
-use Rattle.script.proofs.Bytes.{number-length, mask-put, plain-record}
-use Rattle.script.proofs.records.record_bytes.Statement.{statement}
-use Rattle.script.proofs.records.record_bytes.Tie as tie
+use Rattle.interpreter.proofs.Bytes.{number-length, mask-put, plain-record}
+use Rattle.interpreter.proofs.records.record_bytes.Statement.{statement}
+use Rattle.interpreter.proofs.records.record_bytes.Tie as tie
 
 zeros-requires : tie.Need-zeros-requires
 zeros-requires c κs = search needs

@@ -2,11 +2,11 @@ use borrow.Author.Needs.{needs}
 use mathlib.Core.Path.{ap₂}
 use Rattle.bench.specs.declared.Bench.{Bench}
 use Rattle.bench.specs.declared.Link.{Link}
-use Rattle.script.specs.declared.Session.{Session}
+use Rattle.interpreter.specs.declared.Session.{Session}
 use mathlib.Core.Bool.{true}
-use Rattle.script.proofs.Turns.{opened-turn, refused-turn}
-use Rattle.script.proofs.opened.Statement.{statement}
-use Rattle.script.proofs.opened.Tie as tie
+use Rattle.interpreter.proofs.Turns.{opened-turn, refused-turn}
+use Rattle.interpreter.proofs.opened.Statement.{statement}
+use Rattle.interpreter.proofs.opened.Tie as tie
 
 open-requires : tie.Need-open-requires
 open-requires c κs = search needs

@@ -1,9 +1,9 @@
 use borrow.Author.Needs.{needs}
 use mathlib.Core.Path.{_∙_}
 use native.Mathlib.Omega.{arith}
-use Rattle.script.proofs.Bytes.{low-length, high-length, block-put, loaded-record}
-use Rattle.script.proofs.records.load_record.Statement.{statement}
-use Rattle.script.proofs.records.load_record.Tie as tie
+use Rattle.interpreter.proofs.Bytes.{low-length, high-length, block-put, loaded-record}
+use Rattle.interpreter.proofs.records.load_record.Statement.{statement}
+use Rattle.interpreter.proofs.records.load_record.Tie as tie
 
 record-bytes-requires : tie.Need-record-bytes-requires
 record-bytes-requires c κs = search needs

@@ -3,10 +3,10 @@ use mathlib.Core.Path.{sym, ap, _∙_}
 use mathlib.Core.List.{List}
 use Prim.Native.Nat.{ℕ}
 use Rattle.command.specs.declared.Command.{Command}
-use Rattle.script.specs.Interpreter.{sends, obeys}
-use Rattle.script.specs.Session.{variantOf, openBench, sessionTransition, turnOf}
-use Rattle.script.proofs.obeyed.Statement.{statement}
-use Rattle.script.proofs.obeyed.Tie as tie
+use Rattle.interpreter.specs.Interpreter.{sends, obeys}
+use Rattle.interpreter.specs.Session.{variantOf, openBench, sessionTransition, turnOf}
+use Rattle.interpreter.proofs.obeyed.Statement.{statement}
+use Rattle.interpreter.proofs.obeyed.Tie as tie
 
 enum-known-command : tie.Need-enum-known-command
 enum-known-command c = search needs

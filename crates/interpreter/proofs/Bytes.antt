@@ -7,7 +7,7 @@ use lib.ListN.{length, take, drop, set, replicate}
 use Rattle.katan.specs.Bit.{bytesOf}
 use Rattle.katan.proofs.Numbers.{two-numbers}
 use Rattle.katan.proofs.Written.{in-bytes}
-use Rattle.script.specs.Record.{recordBytes}
+use Rattle.interpreter.specs.Record.{recordBytes}
 
 -- ---- a key's two words are its ten bytes
 

@@ -1,7 +1,7 @@
 use borrow.Author.Needs.{needs}
-use Rattle.script.proofs.Turns.{read-turn}
-use Rattle.script.proofs.read.Statement.{statement}
-use Rattle.script.proofs.read.Tie as tie
+use Rattle.interpreter.proofs.Turns.{read-turn}
+use Rattle.interpreter.proofs.read.Statement.{statement}
+use Rattle.interpreter.proofs.read.Tie as tie
 
 variant-of-requires : tie.Need-variant-of-requires
 variant-of-requires c κs = search needs

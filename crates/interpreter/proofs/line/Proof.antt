@@ -1,9 +1,9 @@
 use borrow.Author.Needs.{needs}
-use mathlib.Core.Path.{ap, _∙_}
-use Rattle.script.specs.Interpreter.{takesAs}
-use Rattle.script.proofs.Turns.{line-turn, broken-turn}
-use Rattle.script.proofs.line.Statement.{statement}
-use Rattle.script.proofs.line.Tie as tie
+use mathlib.Core.Path.{_∙_}
+use Rattle.interpreter.specs.Interpreter.{takesAs}
+use Rattle.interpreter.proofs.Turns.{line-turn, broken-turn}
+use Rattle.interpreter.proofs.line.Statement.{statement}
+use Rattle.interpreter.proofs.line.Tie as tie
 
 variant-of-requires : tie.Need-variant-of-requires
 variant-of-requires c κs = search needs

@@ -1,7 +1,7 @@
 -- The interpreter over the bench and link of the code, and over document 01's machines.
 -- Assumes nothing.
 use Prim.Native.Nat.{ℕ}
-use mathlib.Core.Bool.{Bool, true, false}
+use mathlib.Core.Bool.{true, false}
 use mathlib.Core.List.{List}
 use Rattle.katan.specs.Bit.{pick}
 use Rattle.katan.specs.Checks.{refused}
@@ -9,9 +9,9 @@ use Rattle.bench.specs.Calls.{Call, Answer}
 use Rattle.bench.specs.Model.{Model, freshModel, modelTransition}
 use Rattle.bench.specs.Bench.{State, freshBench, freshLink, benchTransition}
 use Rattle.answers.specs.Printed.{printedAs}
-use Rattle.script.specs.Interpreter.{onLine}
-use Rattle.script.specs.declared.Session.{Session}
-use Rattle.script.specs.declared.Turn.{Turn}
+use Rattle.interpreter.specs.Interpreter.{onLine}
+use Rattle.interpreter.specs.declared.Session.{Session}
+use Rattle.interpreter.specs.declared.Turn.{Turn}
 
 -- ---- the code's bench and link
 

@@ -1,0 +1,4 @@
+mod Bytes
+mod Turns
+pub mod Taken
+pub mod Same
