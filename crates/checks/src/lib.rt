@@ -27,7 +27,7 @@ fn lane_fault(n: usize, lane: Lane) -> bool
             if katan::ROUNDS < p {
                 return true;
             }
-            katan::too_wide(n, h.registers)
+            numbers::too_wide(n, h.registers)
         }
     }
 }

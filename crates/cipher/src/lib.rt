@@ -8,7 +8,6 @@ ghost use Rattle.registers.specs.Answers.{outcome};
 ghost use Rattle.cipher.specs.Answers.{blockAnswer, encryptAnswer, decryptAnswer};
 use katan::Refusal;
 use katan::RoundPosition;
-use katan::RowAnswer;
 use registers::Answer;
 
 // A block from one position to another, with the key in bytes.
@@ -16,17 +15,15 @@ fn worked(variant: u8, key: &[u8], q: u8, p: u8, x: u64) -> Answer
     requires { ⌜ (q ≤ rounds) × (p ≤ rounds) ⌝ }
     ensures { λ r. ⌜ outcome r ≡ blockAnswer variant (now (key .entry)) x (registersAt variant (numberIn (now (key .entry))) q x p) ⌝ }
 {
-    match katan::row_of(variant) {
-        RowAnswer::Found(_row) => {
-            if key.len() != katan::KEY_BYTES {
-                return Answer::Refused(Refusal::BadLength);
-            }
-            let from = RoundPosition(q);
-            let to = RoundPosition(p);
-            registers::registers_at(variant, katan::key_of(key), from, to, x)
-        }
-        RowAnswer::Refused(r) => Answer::Refused(r),
+    if katan::bad_variant(variant) {
+        return Answer::Refused(Refusal::BadVariant);
     }
+    if key.len() != katan::KEY_BYTES {
+        return Answer::Refused(Refusal::BadLength);
+    }
+    let from = RoundPosition(q);
+    let to = RoundPosition(p);
+    registers::registers_at(variant, numbers::key_of(key), from, to, x)
 }
 
 // Encryption: a load at 0 read at 254.

@@ -6,7 +6,7 @@ use mathlib.Core.List.{List, [], _∷_, _++_}
 use lib.ListN.{length, take, drop, set, replicate}
 use Rattle.katan.specs.Bit.{bytesOf}
 use Rattle.katan.proofs.Numbers.{two-numbers}
-use Rattle.katan.proofs.Written.{in-bytes}
+use Rattle.numbers.proofs.Written.{in-bytes}
 use Rattle.interpreter.specs.Record.{recordBytes}
 
 -- ---- a key's two words are its ten bytes

@@ -20,8 +20,8 @@ pub fn record_bytes(kind: u8, lane: u8, count: u8, number: u32, mask: u64) -> [u
     bytes[0] = kind;
     bytes[1] = lane;
     bytes[2] = count;
-    katan::put_number(number as u64, &mut bytes[4..8]);
-    katan::put_number(mask, &mut bytes[8..16]);
+    numbers::put_number(number as u64, &mut bytes[4..8]);
+    numbers::put_number(mask, &mut bytes[8..16]);
     bytes
 }
 
@@ -29,8 +29,8 @@ pub fn load_record(number: u32, lane: u8, position: u8, key: Key, block: u64) ->
     ensures { λ r. ⌜ r ≡ recordBytes 1 lane position number 0 (keyNumber key) block ⌝ }
 {
     let mut bytes = record_bytes(1, lane, position, number, 0);
-    katan::put_number(key.low, &mut bytes[16..24]);
-    katan::put_number(key.high as u64, &mut bytes[24..26]);
-    katan::put_number(block, &mut bytes[26..34]);
+    numbers::put_number(key.low, &mut bytes[16..24]);
+    numbers::put_number(key.high as u64, &mut bytes[24..26]);
+    numbers::put_number(block, &mut bytes[26..34]);
     bytes
 }

@@ -3,7 +3,6 @@ pub mod Tables
 pub mod Fill
 pub mod Bytes
 pub mod Numbers
-pub mod Written
 pub mod Variants
 pub mod Keys
 pub mod Shift

@@ -18,7 +18,7 @@ fn block_key(keys: &[u8], i: usize) -> Key
 {
     let at = KEY_BYTES * i;
     let end = at + KEY_BYTES;
-    katan::key_of(&keys[at..end])
+    numbers::key_of(&keys[at..end])
 }
 
 // Bits 0 to 63 of each key.

@@ -43,7 +43,7 @@ fn any_wide(n: usize, blocks: &[u64]) -> bool
     for i in 0..blocks.len() {
         all = all | blocks[i];
     }
-    katan::too_wide(n, all)
+    numbers::too_wide(n, all)
 }
 
 // The blocks as the rows of a matrix. Where they are fewer than the lanes, the other lanes hold zeros.

@@ -58,8 +58,8 @@ fn loaded_in(bytes: &[u8]) -> Loaded
     ensures { λ r. ⌜ r ≡ loadedIn (now (bytes .entry)) ⌝ }
 {
     let position = position_in(bytes);
-    let key = katan::key_of(bytes_in(bytes, KEY_AT, KEY_BYTES));
-    let registers = katan::word_of(bytes_in(bytes, REGISTERS_AT, 8));
+    let key = numbers::key_of(bytes_in(bytes, KEY_AT, KEY_BYTES));
+    let registers = numbers::word_of(bytes_in(bytes, REGISTERS_AT, 8));
     Loaded {
         key: key,
         position: RoundPosition(position),
@@ -99,8 +99,8 @@ pub fn bench_in(bytes: &[u8]) -> Bench
 pub fn link_in(bytes: &[u8]) -> Link
     ensures { λ r. ⌜ r ≡ linkIn (now (bytes .entry)) ⌝ }
 {
-    let last = katan::word_of(bytes_in(bytes, 0, 4)) as u32;
-    let total = katan::word_of(bytes_in(bytes, 4, 4)) as u32;
+    let last = numbers::word_of(bytes_in(bytes, 0, 4)) as u32;
+    let total = numbers::word_of(bytes_in(bytes, 4, 4)) as u32;
     let sent = record::record_in(bytes_in(bytes, RECORD_AT, LENGTH));
     Link {
         last: last,
@@ -113,8 +113,8 @@ fn put_key(key: Key, out: &mut [u8])
     requires { ⌜ length (now out) ≡ keyBytes ⌝ }
     ensures { λ r. ⌜ now (out .exit) ≡ bytesOf keyBytes (keyNumber key) ⌝ }
 {
-    katan::put_number(key.low, &mut out[0..8]);
-    katan::put_number(key.high as u64, &mut out[8..KEY_BYTES]);
+    numbers::put_number(key.low, &mut out[0..8]);
+    numbers::put_number(key.high as u64, &mut out[8..KEY_BYTES]);
 }
 
 // The state and the position of a loaded lane.
@@ -133,7 +133,7 @@ fn put_loaded(h: Loaded, out: &mut [u8])
     let key = h.key;
     put_head(h.position.0, &mut out[0..KEY_AT]);
     put_key(key, &mut out[KEY_AT..REGISTERS_AT]);
-    katan::put_number(h.registers, &mut out[REGISTERS_AT..LANE_LENGTH]);
+    numbers::put_number(h.registers, &mut out[REGISTERS_AT..LANE_LENGTH]);
 }
 
 // The other bytes of an empty lane are kept.
@@ -193,8 +193,8 @@ fn write_link(link: Link, out: &mut [u8])
     ensures { λ r. ⌜ now (out .exit) ≡ linkBytes link ⌝ }
 {
     let sent = link.bytes;
-    katan::put_number(link.last as u64, &mut out[0..4]);
-    katan::put_number(link.total as u64, &mut out[4..8]);
+    numbers::put_number(link.last as u64, &mut out[0..4]);
+    numbers::put_number(link.total as u64, &mut out[4..8]);
     put_record(sent, &mut out[RECORD_AT..LINK_LENGTH]);
 }
 

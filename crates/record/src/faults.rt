@@ -67,7 +67,7 @@ pub fn load_fault(variant: u8, sent: &[u8]) -> FieldAnswer
     }
     let lane = lane_of(sent) as usize;
     let position = count_of(sent);
-    let wide = katan::too_wide(width_of(variant), block_of(sent));
+    let wide = numbers::too_wide(width_of(variant), block_of(sent));
     if LANES <= lane {
         return FieldAnswer::Refused(Refusal::BadLane);
     }

@@ -39,7 +39,7 @@ fn word_in(bytes: &[u8], from: usize, n: usize) -> u64
     requires { ⌜ n ≤ 8 ⌝ }
     ensures { λ r. ⌜ r ≡ part (now (bytes .entry)) from n ⌝ }
 {
-    katan::word_of(bytes_in(bytes, from, n))
+    numbers::word_of(bytes_in(bytes, from, n))
 }
 
 // The kind: 1 load, 2 forward, 3 back, 4 clear.
@@ -77,7 +77,7 @@ pub fn mask_of(sent: &[u8]) -> u64
 pub fn key_in(sent: &[u8]) -> Key
     ensures { λ r. ⌜ keyNumber r ≡ key (now (sent .entry)) ⌝ }
 {
-    katan::key_of(bytes_in(sent, 16, katan::KEY_BYTES))
+    numbers::key_of(bytes_in(sent, 16, katan::KEY_BYTES))
 }
 
 pub fn block_of(sent: &[u8]) -> u64

@@ -52,7 +52,7 @@ pub fn registers_at(
             if katan::ROUNDS < p {
                 return Answer::Refused(Refusal::BadPosition);
             }
-            if katan::too_wide(row.n, registers) {
+            if numbers::too_wide(row.n, registers) {
                 return Answer::Refused(Refusal::BadBlock);
             }
             Answer::Block(moved(variant, row, key, q, p, registers))

@@ -18,7 +18,7 @@ use Rattle.bench.specs.declared.ReadAnswer.the-variants.{At, Refused as ReadRef
 use Rattle.bench.specs.Bench.{replyAnswer, readingAnswer}
 use Rattle.katan.specs.Bit.{bytesOf}
 use Rattle.katan.proofs.Numbers.{length-bytes}
-use Rattle.katan.proofs.Written.{in-bytes}
+use Rattle.numbers.proofs.Written.{in-bytes}
 use Rattle.replay.specs.Encoding.{answerLength, answerFields, answerBytes}
 use Rattle.replay.specs.Steps.{overwritten}
 

@@ -72,6 +72,6 @@ pub fn write(answer: Fields, at: usize, out: &mut [u8])
     let second = at + 5;
     let end = at + ANSWER_LENGTH;
     out[at] = answer.kind;
-    katan::put_number(answer.first as u64, &mut out[first..second]);
-    katan::put_number(answer.second, &mut out[second..end]);
+    numbers::put_number(answer.first as u64, &mut out[first..second]);
+    numbers::put_number(answer.second, &mut out[second..end]);
 }

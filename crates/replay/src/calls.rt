@@ -15,7 +15,7 @@ pub fn number_of(call: &[u8]) -> usize
     ensures { λ r. ⌜ r ≡ callNumber (now (call .entry)) ⌝ }
 {
     let number = &call[1..HEAD_LENGTH];
-    katan::word_of(number) as usize
+    numbers::word_of(number) as usize
 }
 
 // The bytes that the first call takes; 0 where no whole call comes first.

@@ -221,7 +221,7 @@ fn hexadecimal(digits: &[u8]) -> Bytes {
 
 // The key of bytes 0 to 9.
 fn key_of(bytes: [u8; 80]) -> Key {
-    katan::key_of(&bytes)
+    numbers::key_of(&bytes)
 }
 
 fn encrypt_or_decrypt(kind: u8, variant: u8, key: &[u8], block: u64) -> Outcome {

@@ -3,7 +3,7 @@ use mathlib.Core.List.{List, _++_}
 use Prim.Native.Nat.{ℕ}
 use lib.ListN.{length}
 use Rattle.katan.proofs.Numbers.{length-bytes, two-numbers}
-use Rattle.katan.proofs.Written.{in-bytes}
+use Rattle.numbers.proofs.Written.{in-bytes}
 use Rattle.layout.proofs.Turns.{two-parts}
 use borrow.Author.Needs.{needs}
 use Rattle.layout.proofs.put_key.Statement.{statement}

@@ -6,7 +6,7 @@ use Rattle.katan.specs.Key.{keyNumber}
 use Rattle.katan.specs.Sizes.{keyBytes}
 use Rattle.layout.specs.Layout.{loadedBytes}
 use Rattle.katan.proofs.Numbers.{length-bytes}
-use Rattle.katan.proofs.Written.{in-bytes}
+use Rattle.numbers.proofs.Written.{in-bytes}
 use Rattle.layout.proofs.Turns.{three-parts}
 use borrow.Author.Needs.{needs}
 use Rattle.layout.proofs.put_loaded.Statement.{statement}

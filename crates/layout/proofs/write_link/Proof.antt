@@ -4,7 +4,7 @@ use Prim.Native.Nat.{ℕ}
 use lib.ListN.{length}
 use Rattle.layout.specs.Layout.{linkBytes}
 use Rattle.katan.proofs.Numbers.{length-bytes}
-use Rattle.katan.proofs.Written.{in-bytes}
+use Rattle.numbers.proofs.Written.{in-bytes}
 use Rattle.layout.proofs.Turns.{three-parts}
 use borrow.Author.Needs.{needs}
 use Rattle.layout.proofs.write_link.Statement.{statement}

@@ -7,10 +7,10 @@ use native.Mathlib.Nat.{sub-zero}
 use native.Mathlib.Omega.{arith}
 use lib.ListN.{length, take, length-set}
 use lib.Seq.{take-all}
 use Rattle.katan.specs.Bit.{bytesOf}
-use Rattle.katan.proofs.Written.{number-on}
-use Rattle.katan.proofs.put_number.Statement.{statement}
-use Rattle.katan.proofs.put_number.Tie as tie
+use Rattle.numbers.proofs.Written.{number-on}
+use Rattle.numbers.proofs.put_number.Statement.{statement}
+use Rattle.numbers.proofs.put_number.Tie as tie
 
 abbrev Inv-loop : tie.InvT-loop
 Inv-loop x out₀ rest₀ i₀ out rest i = ((i ≤ length out) × (length out ≡ length out₀)) × (take i out ++ bytesOf (length out - i) rest ≡ bytesOf (length out₀) x)

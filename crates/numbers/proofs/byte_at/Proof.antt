@@ -2,10 +2,10 @@ use mathlib.Core.Path.{sym, refl}
 use native.Mathlib.Omega.{arith}
 use lib.ListN.{List·getD-eq-default}
 use borrow.Author.Needs.{needs}
-use Rattle.katan.proofs.byte_at.Statement.{statement}
-use Rattle.katan.proofs.byte_at.Tie as tie
-use Rattle.katan.proofs.byte_at.Reads as reads
-use Rattle.katan.proofs.byte_at.Lts as lts
+use Rattle.numbers.proofs.byte_at.Statement.{statement}
+use Rattle.numbers.proofs.byte_at.Tie as tie
+use Rattle.numbers.proofs.byte_at.Reads as reads
+use Rattle.numbers.proofs.byte_at.Lts as lts
 
 shared-slice-read-result : tie.Need-shared-slice-read-result
 shared-slice-read-result c = search needs

@@ -5,9 +5,9 @@ use native.Mathlib.Nat.{lt-of-lt-of-le}
 use lib.Pow.{pow-mono}
 use borrow.Author.Needs.{needs}
 use borrow.Author.Tests.{lt-leb}
 use Rattle.katan.proofs.Bits.{one-shifted}
-use Rattle.katan.proofs.too_wide.Statement.{statement}
-use Rattle.katan.proofs.too_wide.Tie as tie
+use Rattle.numbers.proofs.too_wide.Statement.{statement}
+use Rattle.numbers.proofs.too_wide.Tie as tie
 
 shl-result : tie.Need-shl-result
 shl-result c = search needs

@@ -1,11 +1,11 @@
 use native.Mathlib.Omega.{arith}
 use Rattle.katan.proofs.Bytes.{number-from}
 use borrow.Author.Needs.{needs}
-use Rattle.katan.proofs.word_of.Statement.{statement}
-use Rattle.katan.proofs.word_of.Tie as tie
-use Rattle.katan.proofs.word_of.Reads as reads
-use Rattle.katan.proofs.word_of.Lts as lts
-use Rattle.katan.proofs.byte_at.Reads as byte-at-reads
+use Rattle.numbers.proofs.word_of.Statement.{statement}
+use Rattle.numbers.proofs.word_of.Tie as tie
+use Rattle.numbers.proofs.word_of.Reads as reads
+use Rattle.numbers.proofs.word_of.Lts as lts
+use Rattle.numbers.proofs.byte_at.Reads as byte-at-reads
 
 byte-at-requires : tie.Need-byte-at-requires
 byte-at-requires c κs = search needs

@@ -1,16 +1,16 @@
 use mathlib.Core.Path.{_≡_, sym, ap₂, _∙_}
 use Prim.Native.Nat.{ℕ, _+_, _*_, _^_}
 use lib.ListN.{take, drop}
 use Rattle.katan.specs.Bit.{numberIn}
 use native.Mathlib.Omega.{arith}
 use Rattle.katan.proofs.Bytes.{number-from, number-split}
 use borrow.Author.Needs.{needs}
-use Rattle.katan.proofs.key_of.Statement.{statement}
-use Rattle.katan.proofs.key_of.Tie as tie
-use Rattle.katan.proofs.key_of.Reads as reads
-use Rattle.katan.proofs.key_of.Lts as lts
-use Rattle.katan.proofs.byte_at.Reads as byte-at-reads
-use Rattle.katan.proofs.word_of.Reads as word-of-reads
+use Rattle.numbers.proofs.key_of.Statement.{statement}
+use Rattle.numbers.proofs.key_of.Tie as tie
+use Rattle.numbers.proofs.key_of.Reads as reads
+use Rattle.numbers.proofs.key_of.Lts as lts
+use Rattle.numbers.proofs.byte_at.Reads as byte-at-reads
+use Rattle.numbers.proofs.word_of.Reads as word-of-reads
 
 byte-at-requires : tie.Need-byte-at-requires
 byte-at-requires c κs = search needs
