@@ -1,8 +1,3 @@
-pub mod Stores
-pub mod Clocks
-pub mod Histories
-pub mod Columns
-pub mod KeyWords
+pub mod KeyLanes
 pub mod Blocks
 pub mod Faults
-pub mod Xors

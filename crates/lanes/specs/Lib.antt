@@ -1,3 +1,2 @@
 pub mod Many
-pub mod Buffers
 pub mod Words

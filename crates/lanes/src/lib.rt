@@ -1,28 +1,22 @@
 // Many blocks at once, each with its own key. The work is bit-sliced: bit j of each word belongs to lane j, which holds block j.
 ghost use mathlib.Core.Path.{_≡_};
-ghost use Prim.Native.Nat.{ℕ, _+_, _*_, _^_, _<_, _≤_};
+ghost use Prim.Native.Nat.{ℕ, _*_, _^_, _<_, _≤_};
 ghost use lib.Dec.{leb};
 ghost use lib.ListN.{getD, length, take};
-ghost use Rattle.katan.specs.Variant.{rowOf};
+ghost use Rattle.katan.specs.Variant.{rowOf, widthOf};
 ghost use Rattle.katan.specs.Sizes.{laneCount, keyBytes};
-ghost use Rattle.lanes.specs.Many.{blockKey, oneBlock, any, outcome, manyAnswer, manyOf};
 ghost use Rattle.katan.specs.Within.{Entries};
-ghost use Rattle.lanes.specs.Words.{HighLanes, Lane, IsRow, Passed};
+ghost use Rattle.lane_rounds.specs.Words.{laneBlock};
+ghost use Rattle.lanes.specs.Many.{blockKey, oneBlock, any, outcome, manyAnswer, manyOf};
+ghost use Rattle.lanes.specs.Words.{HighLanes, allRounds};
 use crate::keys::key_words;
-use crate::keys::round_words;
 use crate::keys::with_high;
-use crate::rounds::decrypted;
-use crate::rounds::encrypted;
-use crate::rounds::ir_words;
 use katan::KEY_BYTES;
 use katan::LANES;
 use katan::Refusal;
-use katan::Row;
 use katan::RowAnswer;
 
-mod constants;
 mod keys;
-mod rounds;
 
 pub enum Direction {
     Encrypt,
@@ -58,55 +52,47 @@ fn rows_of(blocks: &[u64]) -> [u64; LANES]
     rows
 }
 
-fn passed(
-    direction: Direction,
-    row: Row,
-    irs: &[u64; 254],
-    keys: &[u64; 508],
-    words: &[u64; 64],
-) -> [u64; 64]
-    requires { ⌜ IsRow row ⌝ }
-    ensures { λ r. ⌜ Passed direction row (now (irs .entry)) (now (keys .entry)) (now (words .entry)) r ⌝ }
-    ensures { λ r. ⌜ ((i : ℕ) → row .n ≤ i → getD r i 0 ≡ 0) ⌝ }
+fn passed(direction: Direction, n: usize, keys: &[u64; 508], words: &[u64; 64]) -> [u64; 64]
+    ensures { λ r. ⌜ r ≡ allRounds direction n (now (keys .entry)) (now (words .entry)) ⌝ }
 {
     match direction {
-        Direction::Encrypt => encrypted(row, irs, keys, words),
-        Direction::Decrypt => decrypted(row, irs, keys, words),
+        Direction::Encrypt => lane_rounds::encrypted(n, keys, words),
+        Direction::Decrypt => lane_rounds::decrypted(n, keys, words),
     }
 }
 
-// All rounds, from the words of the blocks to the results as rows.
+// All rounds, from the words of the blocks of n bits to the results as rows.
 fn finished(
     direction: Direction,
     variant: u8,
-    row: Row,
-    keys: &[u8],
     n: usize,
+    keys: &[u8],
+    count: usize,
     words: &[u64; 64],
     high: &[u64; 64],
 ) -> [u64; LANES]
-    requires { ⌜ (row ≡ rowOf variant) × (n ≤ laneCount) × (keyBytes * n ≤ length (now keys)) × HighLanes (blockKey (now keys)) n (now high) ⌝ }
-    ensures { λ r. ⌜ ((j x : ℕ) → j < n → x < 2 ^ (row .n) → Lane (row .n) j (now (words .entry)) x → getD r j 0 ≡ oneBlock direction variant (blockKey (now (keys .entry)) j) x) ⌝ }
+    requires { ⌜ (n ≡ widthOf variant) × (count ≤ laneCount) × (keyBytes * count ≤ length (now keys)) × HighLanes (blockKey (now keys)) count (now high) ⌝ }
+    ensures { λ r. ⌜ Entries (λ j. oneBlock direction variant (blockKey (now (keys .entry)) j) (laneBlock (rowOf variant) (now (words .entry)) j)) count r ⌝ }
 {
-    let round_keys = round_words(variant, key_words(keys, n, high));
-    let irs = ir_words();
-    transpose::transpose(passed(direction, row, &irs, &round_keys, words))
+    let round_keys = lane_keys::round_words(variant, key_words(keys, count, high));
+    transpose::transpose(passed(direction, n, &round_keys, words))
 }
 
 // The results, as rows.
-fn worked(direction: Direction, variant: u8, row: Row, keys: &[u8], blocks: &[u64]) -> [u64; LANES]
-    requires { ⌜ (row ≡ rowOf variant) × (length (now blocks) ≤ laneCount) × (keyBytes * length (now blocks) ≤ length (now keys)) ⌝ }
-    requires { ⌜ ((i : ℕ) → i < length (now blocks) → getD (now blocks) i 0 < 2 ^ (row .n)) ⌝ }
+fn worked(direction: Direction, variant: u8, n: usize, keys: &[u8], blocks: &[u64]) -> [u64; LANES]
+    requires { ⌜ (n ≡ widthOf variant) × (length (now blocks) ≤ laneCount) × (keyBytes * length (now blocks) ≤ length (now keys)) ⌝ }
+    requires { ⌜ ((i : ℕ) → i < length (now blocks) → getD (now blocks) i 0 < 2 ^ n) ⌝ }
     ensures { λ r. ⌜ Entries (λ i. oneBlock direction variant (blockKey (now (keys .entry)) i) (getD (now (blocks .entry)) i 0)) (length (now (blocks .entry))) r ⌝ }
 {
-    let n = blocks.len();
-    if row.n <= 48 {
-        let words = transpose::transpose(with_high(rows_of(blocks), keys, n));
-        finished(direction, variant, row, keys, n, &words, &words)
+    let count = blocks.len();
+    if n <= 48 {
+        let words = transpose::transpose(with_high(blocks, keys, count));
+        finished(direction, variant, n, keys, count, &words, &words)
     } else {
         let words = transpose::transpose(rows_of(blocks));
-        let high = transpose::transpose(with_high([0u64; 64], keys, n));
-        finished(direction, variant, row, keys, n, &words, &high)
+        let zeros = [0u64; 64];
+        let high = transpose::transpose(with_high(&zeros, keys, count));
+        finished(direction, variant, n, keys, count, &words, &high)
     }
 }
 
@@ -148,7 +134,7 @@ pub fn many(
             if any_wide(row.n, blocks) {
                 return Answer::Refused(Refusal::BadBlock);
             }
-            write(worked(direction, variant, row, keys, blocks), out);
+            write(worked(direction, variant, row.n, keys, blocks), out);
             Answer::Done
         }
         RowAnswer::Refused(r) => Answer::Refused(r),

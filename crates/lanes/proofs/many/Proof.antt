@@ -1,10 +1,11 @@
 -- `lanes::many` meets its contract.
 -- Assumes nothing.
-use mathlib.Core.Path.{_≡_, sym, _∙_}
+use mathlib.Core.Path.{_≡_, sym, ap, _∙_}
 use Prim.Native.Nat.{_≤_}
 use native.Mathlib.Omega.{arith}
 use borrow.Author.Needs.{needs}
 use lib.ListN.{length}
+use Rattle.katan.specs.declared.Row.{Row}
 use Rattle.katan.proofs.Variants.{row-found, row-refused}
 use Rattle.lanes.proofs.Blocks.{first-results}
 use Rattle.lanes.proofs.Faults.{blocks-fault, all-below, none-fault, many-fault, keys-fault, out-fault, no-fault, refuses-1, refuses-2, refuses-7, done}
@@ -71,7 +72,7 @@ worked-requires c κs =
     let d = m .before .before .before .before .before .before .before in
     let a = d .args in
     let is = row-found (a .variant) (m .before .before .before .row-of .result) _ (m .before .before .before .row-of .ensures) (m .before .row .given .1) in
-    ((is .is-row, omega arith, omega arith), all-below (a .variant) _ (is .is-row) (a .blocks .now) (sym (c .before .any-wide .ensures) ∙ c .if5 .left))
+    ((ap (λ (w : Row). w .n) (is .is-row), omega arith, omega arith), all-below (a .variant) _ (is .is-row) (a .blocks .now) (sym (c .before .any-wide .ensures) ∙ c .if5 .left))
 
 write-requires : tie.Need-write-requires
 write-requires c κs = search needs

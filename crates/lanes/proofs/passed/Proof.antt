@@ -17,12 +17,10 @@ decrypted-requires : tie.Need-decrypted-requires
 decrypted-requires c κs = search needs
 
 returns : tie.Need-returns
-returns c =
-    (rw (c .before .enum-told .given .1) (c .encrypted .ensures .0), c .encrypted .ensures .1)
+returns c = rw (c .before .enum-told .given .1) (c .encrypted .ensures)
 
 returns-2 : tie.Need-returns-2
-returns-2 c =
-    (rw (c .before .enum-told2 .given .1) (c .decrypted .ensures .0), c .decrypted .ensures .1)
+returns-2 c = rw (c .before .enum-told2 .given .1) (c .decrypted .ensures)
 
 pub passed-spec : {M : Type 1} → statement M
 passed-spec =

@@ -6,7 +6,7 @@ use native.Mathlib.Omega.{arith}
 use borrow.Author.Needs.{needs}
 use lib.ListN.{length, length-set, getD}
 use Rattle.katan.specs.Within.{Entries}
-use Rattle.lanes.proofs.Stores.{filled}
+use Rattle.katan.proofs.Fill.{filled}
 use Rattle.lanes.proofs.rows_of.Statement.{statement}
 use Rattle.lanes.proofs.rows_of.Tie as tie
 
@@ -41,7 +41,7 @@ loop-again : tie.Need-loop-again Inv-loop μ-loop
 loop-again c =
     let l = c .before .before .loop in
     let blocks = c .before .before .before .args .blocks .now in
-    (length-set (l .rows) (l .i) _ ∙ l .inv .0, omega arith, l .inv .2, filled (λ j y. y ≡ getD blocks j 0) (l .rows) (l .i) (getD blocks (l .i) 0) (omega arith) (l .inv .3) refl)
+    (length-set (l .rows) (l .i) _ ∙ l .inv .0, omega arith, l .inv .2, filled (λ j. getD blocks j 0) (l .rows) (l .i) (getD blocks (l .i) 0) (omega arith) (l .inv .3) refl)
 
 returns : tie.Need-returns Inv-loop μ-loop
 returns c = λ j q. c .before .loop .inv .3 j (omega arith)

@@ -2,7 +2,7 @@
 -- Assumes nothing.
 use mathlib.Core.Path.{_∙_}
 use borrow.Author.Needs.{needs}
-use Rattle.lanes.proofs.KeyWords.{key-part}
+use Rattle.lanes.proofs.KeyLanes.{key-part}
 use Rattle.lanes.proofs.keys.block_key.Statement.{statement}
 use Rattle.lanes.proofs.keys.block_key.Tie as tie
 

@@ -1,38 +1,41 @@
--- `lanes::keys::joined` meets its contract. The loop's invariant: the low words are kept, and i high words are copied.
+-- `lanes::keys::joined` meets its contract. The loop's invariant: the first i words are made.
 -- Assumes nothing.
-use mathlib.Core.Path.{_≡_, refl, _∙_}
-use Prim.Native.Nat.{ℕ, _+_, _-_, _≤_, _<_}
+use mathlib.Core.Path.{_≡_, sym, ap, _∙_}
+use mathlib.Core.Bool.{Bool}
+use Prim.Native.Nat.{_-_, _≤_}
 use native.Mathlib.Omega.{arith}
 use borrow.Author.Needs.{needs}
+use borrow.Author.Tests.{le-leb, lt-leb}
 use lib.ListN.{length, length-set, getD}
-use lib.Seq.{getD-set-other}
-use Rattle.lanes.proofs.Stores.{stored}
+use Rattle.katan.specs.Bit.{pick}
+use Rattle.katan.specs.Within.{Entries}
+use Rattle.katan.proofs.Fill.{filled}
+use Rattle.lanes.specs.Words.{keyWord}
 use Rattle.lanes.proofs.keys.joined.Statement.{statement}
 use Rattle.lanes.proofs.keys.joined.Tie as tie
 
 abbrev Inv-loop : tie.InvT-loop
-Inv-loop high words₀ i₀ words i = (length words ≡ 80) × (i ≤ 16) × ((j : ℕ) → j < 64 → getD words j 0 ≡ getD words₀ j 0) × ((j : ℕ) → j < i → getD words (64 + j) 0 ≡ getD high (48 + j) 0)
+Inv-loop low high words₀ i₀ words i = (length words ≡ 80) × (64 ≤ i) × (i ≤ 80) × Entries (keyWord low high) i words
 
 abbrev μ-loop : tie.MeasureT-loop
-μ-loop high words₀ i₀ words i = 16 - i
+μ-loop low high words₀ i₀ words i = 80 - i
 
 low-words-requires : tie.Need-low-words-requires Inv-loop μ-loop
 low-words-requires c κs = search needs
 
 loop-holds : tie.Need-loop-holds Inv-loop μ-loop
-loop-holds c = (search needs, omega arith, (λ j q. refl), λ j q. absurd (omega arith))
+loop-holds c =
+    let a = c .before .args in
+    (search needs, omega arith, omega arith, λ j q. c .low-words .ensures j q ∙ sym (ap (λ (b : Bool). pick b (getD (a .high .now) (j - 16) 0) (getD (a .low .now) j 0)) (lt-leb 64 j q)))
 
-add-words : tie.Need-add-words Inv-loop μ-loop
-add-words c = omega arith
+sub-words : tie.Need-sub-words Inv-loop μ-loop
+sub-words c = omega arith
 
 mul-words : tie.Need-mul-words Inv-loop μ-loop
 mul-words c = search needs
 
 element-copy-out-words : tie.Need-element-copy-out-words Inv-loop μ-loop
 element-copy-out-words c = omega arith
-
-add-words-2 : tie.Need-add-words-2 Inv-loop μ-loop
-add-words-2 c = omega arith
 
 mul-words-2 : tie.Need-mul-words-2 Inv-loop μ-loop
 mul-words-2 c = search needs
@@ -49,18 +52,18 @@ loop-less c = omega arith
 loop-again : tie.Need-loop-again Inv-loop μ-loop
 loop-again c =
     let l = c .before .before .loop in
-    let high = c .before .before .before .before .args .high .now in
-    let x = getD high (48 + l .i) 0 in (
-      length-set (l .words) (64 + l .i) x ∙ l .inv .0,
+    let a = c .before .before .before .before .args in
+    let low = a .low .now in
+    let high = a .high .now in
+    let x = getD high (l .i - 16) 0 in (
+      length-set (l .words) (l .i) x ∙ l .inv .0,
       omega arith,
-      (λ j q. getD-set-other (l .words) (64 + l .i) j x 0 (λ e. omega arith) ∙ l .inv .2 j q),
-      stored (λ j y. y ≡ getD high (48 + j) 0) (λ j. 64 + j) (l .words) (l .i) x (omega arith) (λ j q e. omega arith) (l .inv .3) refl,
+      omega arith,
+      filled (keyWord low high) (l .words) (l .i) x (omega arith) (l .inv .3) (sym (ap (λ (b : Bool). pick b x (getD low (l .i) 0)) (le-leb 64 (l .i) (l .inv .1)))),
     )
 
 returns : tie.Need-returns Inv-loop μ-loop
-returns c =
-    let l = c .before .loop in
-    ((λ j q. l .inv .2 j q ∙ c .before .before .low-words .ensures j q), (λ j q. l .inv .3 j (omega arith)))
+returns c = λ j q. c .before .loop .inv .3 j (omega arith)
 
 pub joined-spec : {M : Type 1} → statement M
 joined-spec =
@@ -70,10 +73,9 @@ joined-spec =
     μ-loop
     low-words-requires
     loop-holds
-    add-words
+    sub-words
     mul-words
     element-copy-out-words
-    add-words-2
     mul-words-2
     array-write-words
     add-i

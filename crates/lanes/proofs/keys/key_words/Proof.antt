@@ -2,7 +2,7 @@
 -- Assumes nothing.
 use borrow.Author.Needs.{needs}
 use Rattle.lanes.specs.Many.{blockKey}
-use Rattle.lanes.proofs.Blocks.{joined-lane}
+use Rattle.lanes.proofs.KeyLanes.{key-lanes}
 use Rattle.lanes.proofs.keys.key_words.Statement.{statement}
 use Rattle.lanes.proofs.keys.key_words.Tie as tie
 
@@ -17,10 +17,9 @@ joined-requires c κs = search needs
 
 returns : tie.Need-returns
 returns c =
-    let d = c .before .before .before .before in
-    let low = c .before .before .low-rows in
-    joined-lane (blockKey (d .args .keys .now)) (d .args .n) (low .result) _ (d .args .high .now) (c .joined .result) (low .ensures)
-    (c .before .transpose .ensures) (d .pre .2) (c .joined .ensures .0) (c .joined .ensures .1)
+    let d = c .before .before .before .before .before in
+    let low = c .before .before .before .low-rows in
+    key-lanes (blockKey (d .args .keys .now)) (d .args .n) (low .result) _ (d .args .high .now) (c .joined .result) (low .ensures) (c .before .before .transpose .ensures) (d .pre .2) (c .joined .ensures)
 
 pub key-words-spec : {M : Type 1} → statement M
 key-words-spec =

@@ -1,20 +1,19 @@
 -- `lanes::keys::low_rows` meets its contract. The loop's invariant: the first i rows have their keys' bits.
 -- Assumes nothing.
 use mathlib.Core.Path.{_≡_, _∙_}
-use Prim.Native.Nat.{ℕ, _+_, _-_, _≤_, _<_}
+use Prim.Native.Nat.{_-_, _%_, _^_, _≤_}
 use native.Mathlib.Omega.{arith}
 use borrow.Author.Needs.{needs}
 use lib.ListN.{length, length-set}
-use Rattle.katan.specs.Bit.{bit}
 use Rattle.lanes.specs.Many.{blockKey}
-use Rattle.lanes.specs.Words.{Rows}
-use Rattle.lanes.proofs.Stores.{filled}
-use Rattle.lanes.proofs.KeyWords.{low-row}
+use Rattle.katan.specs.Within.{Entries}
+use Rattle.katan.proofs.Fill.{filled}
+use Rattle.lanes.proofs.KeyLanes.{low-part}
 use Rattle.lanes.proofs.keys.low_rows.Statement.{statement}
 use Rattle.lanes.proofs.keys.low_rows.Tie as tie
 
 abbrev Inv-loop : tie.InvT-loop
-Inv-loop keys n rows₀ i₀ rows i = (length rows ≡ 64) × (i ≤ n) × Rows (blockKey keys) 0 64 i rows
+Inv-loop keys n rows₀ i₀ rows i = (length rows ≡ 64) × (i ≤ n) × Entries (λ j. blockKey keys j % 2 ^ 64) i rows
 
 abbrev μ-loop : tie.MeasureT-loop
 μ-loop keys n rows₀ i₀ rows i = n - i
@@ -44,8 +43,7 @@ loop-again c =
     let k = c .block-key in (
       length-set (l .rows) (l .i) _ ∙ l .inv .0,
       omega arith,
-      filled (λ j y. (i : ℕ) → i < 64 → bit y i ≡ bit (blockKey keys j) (0 + i)) (l .rows) (l .i) (k .result .low) (omega arith) (l .inv .2)
-          (low-row (k .result) (blockKey keys (l .i)) (k .ensures) (omega (arith, k .ok))),
+      filled (λ j. blockKey keys j % 2 ^ 64) (l .rows) (l .i) (k .result .low) (omega arith) (l .inv .2) (low-part (k .result) (blockKey keys (l .i)) (k .ensures) (omega (arith, k .ok))),
     )
 
 returns : tie.Need-returns Inv-loop μ-loop

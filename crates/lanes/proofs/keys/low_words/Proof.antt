@@ -6,7 +6,7 @@ use native.Mathlib.Omega.{arith}
 use borrow.Author.Needs.{needs}
 use lib.ListN.{length, length-set, getD}
 use Rattle.katan.specs.Within.{Entries}
-use Rattle.lanes.proofs.Stores.{filled}
+use Rattle.katan.proofs.Fill.{filled}
 use Rattle.lanes.proofs.keys.low_words.Statement.{statement}
 use Rattle.lanes.proofs.keys.low_words.Tie as tie
 
@@ -22,8 +22,8 @@ loop-holds c = (search needs, omega arith, λ j q. absurd (omega arith))
 mul-words : tie.Need-mul-words Inv-loop μ-loop
 mul-words c = search needs
 
-array-read-words : tie.Need-array-read-words Inv-loop μ-loop
-array-read-words c = omega arith
+element-copy-out-words : tie.Need-element-copy-out-words Inv-loop μ-loop
+element-copy-out-words c = omega arith
 
 mul-words-2 : tie.Need-mul-words-2 Inv-loop μ-loop
 mul-words-2 c = search needs
@@ -39,9 +39,9 @@ loop-less c = omega arith
 
 loop-again : tie.Need-loop-again Inv-loop μ-loop
 loop-again c =
-    let l = c .before .loop in
-    let low = c .before .before .args .t1 in
-    (length-set (l .words) (l .i) _ ∙ l .inv .0, omega arith, filled (λ j y. y ≡ getD low j 0) (l .words) (l .i) (getD low (l .i) 0) (omega arith) (l .inv .2) refl)
+    let l = c .before .before .loop in
+    let low = c .before .before .before .args .low .now in
+    (length-set (l .words) (l .i) _ ∙ l .inv .0, omega arith, filled (λ j. getD low j 0) (l .words) (l .i) (getD low (l .i) 0) (omega arith) (l .inv .2) refl)
 
 returns : tie.Need-returns Inv-loop μ-loop
 returns c = λ j q. c .before .loop .inv .2 j (omega arith)
@@ -54,7 +54,7 @@ low-words-spec =
     μ-loop
     loop-holds
     mul-words
-    array-read-words
+    element-copy-out-words
     mul-words-2
     array-write-words
     add-i

@@ -1,0 +1,63 @@
+-- `lane_keys::first_words` meets its contract. The loop's invariant: the first i words are copied.
+-- Assumes nothing.
+use mathlib.Core.Path.{_≡_, refl, _∙_}
+use Prim.Native.Nat.{_-_, _≤_}
+use native.Mathlib.Omega.{arith}
+use borrow.Author.Needs.{needs}
+use lib.ListN.{length, length-set, getD}
+use Rattle.katan.specs.Within.{Entries}
+use Rattle.katan.proofs.Fill.{filled}
+use Rattle.lane_keys.proofs.first_words.Statement.{statement}
+use Rattle.lane_keys.proofs.first_words.Tie as tie
+
+abbrev Inv-loop : tie.InvT-loop
+Inv-loop key words₀ i₀ words i = (length words ≡ 508) × (i ≤ 80) × Entries (λ j. getD key j 0) i words
+
+abbrev μ-loop : tie.MeasureT-loop
+μ-loop key words₀ i₀ words i = 80 - i
+
+loop-holds : tie.Need-loop-holds Inv-loop μ-loop
+loop-holds c = (search needs, omega arith, λ j q. absurd (omega arith))
+
+mul-words : tie.Need-mul-words Inv-loop μ-loop
+mul-words c = search needs
+
+array-read-words : tie.Need-array-read-words Inv-loop μ-loop
+array-read-words c = omega arith
+
+mul-words-2 : tie.Need-mul-words-2 Inv-loop μ-loop
+mul-words-2 c = search needs
+
+array-write-words : tie.Need-array-write-words Inv-loop μ-loop
+array-write-words c = omega arith
+
+add-i : tie.Need-add-i Inv-loop μ-loop
+add-i c = omega arith
+
+loop-less : tie.Need-loop-less Inv-loop μ-loop
+loop-less c = omega arith
+
+loop-again : tie.Need-loop-again Inv-loop μ-loop
+loop-again c =
+    let l = c .before .loop in
+    let key = c .before .before .args .t1 in
+    (length-set (l .words) (l .i) _ ∙ l .inv .0, omega arith, filled (λ j. getD key j 0) (l .words) (l .i) (getD key (l .i) 0) (omega arith) (l .inv .2) refl)
+
+returns : tie.Need-returns Inv-loop μ-loop
+returns c = λ j q. c .before .loop .inv .2 j (omega arith)
+
+pub first-words-spec : {M : Type 1} → statement M
+first-words-spec =
+    tie.close
+    (tie.spec
+    Inv-loop
+    μ-loop
+    loop-holds
+    mul-words
+    array-read-words
+    mul-words-2
+    array-write-words
+    add-i
+    loop-less
+    loop-again
+    returns)

@@ -1,0 +1,75 @@
+-- `lane_rounds::rounds::unround_at` meets its contract. The loop's invariant: the last i clocks are made.
+-- Assumes nothing.
+use Prim.Native.Nat.{_+_, _-_, _≤_}
+use native.Mathlib.Omega.{arith}
+use Rattle.lane_rounds.proofs.Histories.{untouched-from, Left, left-as, left-more}
+use Rattle.lane_rounds.proofs.rounds.unround_at.Statement.{statement}
+use Rattle.lane_rounds.proofs.rounds.unround_at.Tie as tie
+
+abbrev Inv-loop : tie.InvT-loop
+Inv-loop v n a₀ b₀ u first i₀ a b i = (i ≤ n) × Left v u first n (first + n - i) a₀ b₀ a b
+
+abbrev μ-loop : tie.MeasureT-loop
+μ-loop v n a₀ b₀ u first i₀ a b i = n - i
+
+loop-holds : tie.Need-loop-holds Inv-loop μ-loop
+loop-holds c = (omega arith, record { room = c .before .before .pre .1; clocks = λ k z q. absurd (omega arith); kept = untouched-from _ _ _ })
+
+add-unclock-at : tie.Need-add-unclock-at Inv-loop μ-loop
+add-unclock-at c = omega arith
+
+sub-unclock-at : tie.Need-sub-unclock-at Inv-loop μ-loop
+sub-unclock-at c = omega arith
+
+sub-unclock-at-2 : tie.Need-sub-unclock-at-2 Inv-loop μ-loop
+sub-unclock-at-2 c = omega arith
+
+unclock-at-requires : tie.Need-unclock-at-requires Inv-loop μ-loop
+unclock-at-requires c κs =
+    let s = c .before .before .before .before .before .before .pre .0 in
+    let m = c .before .before .before .loop .inv .1 .room in
+    (s, omega (arith, m .room1), omega (arith, m .room2))
+
+add-i : tie.Need-add-i Inv-loop μ-loop
+add-i c = omega arith
+
+loop-less : tie.Need-loop-less Inv-loop μ-loop
+loop-less c = omega arith
+
+loop-again : tie.Need-loop-again Inv-loop μ-loop
+loop-again c =
+    let l = c .before .before .before .before .before .before .before .before .loop in
+    let d = c .before .before .before .before .before .before .before .before .before .before .before in
+    let first = d .args .from .0 in
+    let n = d .args .n in
+    let t = first + n - l .i - 1 in
+    (omega arith, left-as t (first + n - (l .i + 1)) (omega arith) (left-more _ (d .pre .0) (d .args .u) first _ _ _ _ _ _ n (first + n - l .i) t (omega arith) (omega arith) (omega arith) (d .pre .2) (l .inv .1) (c .before .before .before .before .unclock-at .ensures .0) (c .before .before .before .before .unclock-at .ensures .1)))
+
+same-length : tie.Need-same-length Inv-loop μ-loop
+same-length c = c .before .loop .inv .1 .kept .long1
+
+same-length-2 : tie.Need-same-length-2 Inv-loop μ-loop
+same-length-2 c = c .before .loop .inv .1 .kept .long2
+
+returns : tie.Need-returns Inv-loop μ-loop
+returns c =
+    let l = c .before .loop in
+    (l .inv .1 .room, ((λ k z q. l .inv .1 .clocks k (omega arith) q), l .inv .1 .kept))
+
+pub unround-at-spec : {M : Type 1} → statement M
+unround-at-spec =
+    tie.close
+    (tie.spec
+    Inv-loop
+    μ-loop
+    loop-holds
+    add-unclock-at
+    sub-unclock-at
+    sub-unclock-at-2
+    unclock-at-requires
+    add-i
+    loop-less
+    loop-again
+    same-length
+    same-length-2
+    returns)

@@ -1,0 +1,36 @@
+-- All rounds of 64 lanes at once, on words: bit j of each word belongs to lane j.
+-- Assumes nothing.
+use Prim.Native.Nat.{ℕ, _+_, _*_, _%_, _^_}
+use mathlib.Core.List.{List}
+use lib.Dec.{eqb}
+use lib.ListN.{getD}
+use Rattle.katan.specs.Bit.{bit, pick, tabulate}
+use Rattle.katan.specs.Clock.{run, unrun, block, registers}
+use Rattle.katan.specs.Counter.{counter, irOf, rounds}
+use Rattle.katan.specs.Sizes.{laneCount}
+use Rattle.katan.specs.Variant.{row32, row48, row64}
+use Rattle.katan.specs.declared.RoundInput.{RoundInput}
+use Rattle.katan.specs.declared.Row.{Row}
+use Rattle.transpose.specs.Matrix.{column, transposed}
+
+-- the row of a width; 64 stands for any other number
+abbrev pub widthRow : ℕ → Row
+widthRow n = pick (eqb n 32) row32 (pick (eqb n 48) row48 row64)
+
+-- lane j's block: its bit i is bit j of word i
+abbrev pub laneBlock : Row → List ℕ → ℕ → ℕ
+laneBlock v words j = column words j % 2 ^ (v .n)
+
+-- what round r takes in lane j: IR is every lane's, and the key words 2 r and 2 r + 1 have ka and kb
+abbrev pub laneInput : List ℕ → ℕ → ℕ → RoundInput
+laneInput keys j r = record { ir = irOf (counter r); ka = bit (getD keys (2 * r) 0) j; kb = bit (getD keys (2 * r + 1) 0) j }
+
+-- the words whose lanes hold what all rounds make of each lane's block
+unfoldable pub carried : (n : ℕ) (keys words : List ℕ) → List ℕ
+carried n keys words =
+    transposed (tabulate (λ j. block (widthRow n) (run (widthRow n) (laneInput keys j) 0 rounds (registers (widthRow n) (laneBlock (widthRow n) words j)))) 0 laneCount)
+
+-- and the same with all rounds undone
+unfoldable pub uncarried : (n : ℕ) (keys words : List ℕ) → List ℕ
+uncarried n keys words =
+    transposed (tabulate (λ j. block (widthRow n) (unrun (widthRow n) (laneInput keys j) 0 rounds (registers (widthRow n) (laneBlock (widthRow n) words j)))) 0 laneCount)
