@@ -3,7 +3,7 @@
 use mathlib.Core.Path.{_≡_, refl, sym, ap, ap₂, _∙_}
 use mathlib.Core.Bool.{Bool, true, false}
 use mathlib.Core.List.{List, [], _∷_, _++_, map, map-append}
-use Prim.Native.Nat.{ℕ, zero, suc, _+_, _-_, _*_, _<_, _≤_}
+use Prim.Native.Nat.{ℕ, zero, suc, _+_, _-_, _*_, _<_}
 use native.Mathlib.Omega.{arith}
 use borrow.Author.Tests.{leb-true, leb-false}
 use lib.Dec.{leb}
@@ -17,7 +17,7 @@ use Rattle.katan.specs.declared.RoundInput.{RoundInput}
 use Rattle.katan.proofs.Bits.{bit-zero, bit-xor}
 use Rattle.katan.proofs.Keys.{katan-input, ktantan-input}
 use Rattle.katan.proofs.Tables.{entry, length-tabulate, number-below}
-use Rattle.lane_keys.specs.RoundWords.{kWord, roundWord, roundWords}
+use Rattle.lane_keys.specs.RoundWords.{kWord, roundWords}
 use Rattle.lane_keys.proofs.KeyWords.{round-word}
 
 -- ---- a map from one kind of bits to another that keeps xor keeps the key rule

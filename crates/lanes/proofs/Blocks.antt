@@ -2,7 +2,7 @@
 -- Assumes nothing.
 use mathlib.Core.Path.{_≡_, refl, sym, ap, ap₂, subst, _∙_}
 use mathlib.Core.List.{List}
-use Prim.Native.Nat.{ℕ, zero, suc, _+_, _-_, _*_, _/_, _%_, _^_, _<_, _≤_}
+use Prim.Native.Nat.{ℕ, zero, suc, _+_, _-_, _/_, _%_, _^_, _<_, _≤_}
 use native.Mathlib.Nat.{mod-lt, mod-eq-of-lt, lt-of-lt-of-le}
 use native.Mathlib.Omega.{arith}
 use lib.ListN.{length, getD, take, replicate}
@@ -10,10 +10,11 @@ use lib.Seq.{getD-take, length-take-le}
 use lib.Pow.{pow-pos, pow-mono, low, mod-mod-pow}
 use Rattle.katan.specs.Bit.{tabulate}
 use Rattle.katan.specs.Counter.{rounds}
+use Rattle.katan.specs.Key.{keyLength}
 use Rattle.katan.specs.Variant.{row32, rows, rowOf, widthOf}
 use Rattle.katan.specs.Clock.{round, unround, run, unrun, block, registers, inputOf}
 use Rattle.katan.specs.Machine.{encryption, decryption}
-use Rattle.katan.specs.Within.{Sound, Bits, Fits, Entries}
+use Rattle.katan.specs.Within.{Bits, Fits, Entries}
 use Rattle.katan.specs.declared.Row.{Row}
 use Rattle.katan.specs.declared.Registers.{Registers}
 use Rattle.katan.specs.declared.RoundInput.{RoundInput}
@@ -31,7 +32,6 @@ use Rattle.lanes.specs.declared.Direction.{Direction}
 use Rattle.lanes.specs.declared.Direction.the-variants.{Encrypt, Decrypt}
 use Rattle.lanes.specs.Many.{blockKey, oneBlock, results}
 use Rattle.lanes.specs.Words.{withHigh, KeyLanes, allRounds}
-use Rattle.katan.specs.Key.{keyLength}
 
 -- ---- rows and lanes
 

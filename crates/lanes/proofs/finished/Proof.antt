@@ -1,6 +1,5 @@
 -- `lanes::finished` meets its contract.
 -- Assumes nothing.
-use native.Mathlib.Omega.{arith}
 use borrow.Author.Needs.{needs}
 use Rattle.lanes.specs.Many.{blockKey}
 use Rattle.lanes.proofs.Blocks.{result-rows}
