@@ -5,7 +5,7 @@ use mathlib.Core.List.{List}
 use Prim.Native.Nat.{ℕ, zero, suc, _+_, _-_, _/_, _%_, _^_, _<_, _≤_}
 use native.Mathlib.Nat.{mod-lt, mod-eq-of-lt, lt-of-lt-of-le}
 use native.Mathlib.Omega.{arith}
-use lib.ListN.{length, getD, take, replicate}
+use lib.ListN.{length, getD, take}
 use lib.Seq.{getD-take, length-take-le}
 use lib.Pow.{pow-pos, pow-mono, low, mod-mod-pow}
 use Rattle.katan.specs.Bit.{tabulate}
@@ -34,12 +34,6 @@ use Rattle.lanes.specs.Many.{blockKey, oneBlock, results}
 use Rattle.lanes.specs.Words.{withHigh, KeyLanes, allRounds}
 
 -- ---- rows and lanes
-
--- a list of zeros
-pub zeros : (n i : ℕ) → _≡_ {A = ℕ} (getD (replicate n 0) i 0) 0
-zeros zero i = refl
-zeros (suc n) zero = refl
-zeros (suc n) (suc i) = zeros n i
 
 -- the lanes of transposed rows are the rows
 row-column : (m : List ℕ) → length m ≡ 64 → ((i : ℕ) → i < 64 → getD m i 0 < 2 ^ 64) → (j : ℕ) → j < 64 → column (transposed m) j ≡ getD m j 0

@@ -5,13 +5,13 @@ use Prim.Native.Nat.{ℕ, _^_, _<_, _≤_}
 use native.Mathlib.Nat.{lt-of-lt-of-le}
 use native.Mathlib.Omega.{arith}
 use borrow.Author.Needs.{needs}
-use lib.ListN.{getD, replicate}
+use lib.ListN.{getD, replicate, getD-replicate}
 use lib.Pow.{pow-mono}
 use mir.Syntax.{w64}
 use mir.Val.{Fits}
 use Rattle.katan.specs.Variant.{rowOf}
 use Rattle.lanes.specs.Many.{blockKey, oneBlock}
-use Rattle.lanes.proofs.Blocks.{zeros, lane-plain, lane-below}
+use Rattle.lanes.proofs.Blocks.{lane-plain, lane-below}
 use Rattle.lanes.proofs.KeyLanes.{high-lanes}
 use Rattle.lanes.proofs.worked.Statement.{statement}
 use Rattle.lanes.proofs.worked.Tie as tie
@@ -49,7 +49,7 @@ slice-aggregate-with-high c = search needs
 with-high-requires-2 : tie.Need-with-high-requires-2
 with-high-requires-2 c κs =
     let d = c .before .before .before .before .before .before in
-    (d .pre .0 .1, omega arith, d .pre .0 .2, λ i q. subst (λ (y : ℕ). y < 281474976710656) (sym (zeros 64 i)) (omega arith))
+    (d .pre .0 .1, omega arith, d .pre .0 .2, λ i q. subst (λ (y : ℕ). y < 281474976710656) (sym (getD-replicate 64 i 0 0 (omega (arith, d .pre .0 .1)))) (omega arith))
 
 transpose-requires-3 : tie.Need-transpose-requires-3
 transpose-requires-3 c κs = search needs
@@ -63,7 +63,7 @@ finished-requires-2 c κs =
       d .pre .0 .1,
       d .pre .0 .2,
       high-lanes (blockKey (a .keys .now)) (λ i. getD (replicate {A = ℕ} 64 0) i 0) _ (w .result) _
-          (λ i q. subst (λ (y : ℕ). y < 281474976710656) (sym (zeros 64 i)) (omega arith)) (w .ensures) (c .before .before .transpose3 .ensures),
+          (λ i q. subst (λ (y : ℕ). y < 281474976710656) (sym (getD-replicate 64 i 0 0 (omega (arith, d .pre .0 .1)))) (omega arith)) (w .ensures) (c .before .before .transpose3 .ensures),
     )
 
 returns : tie.Need-returns
