@@ -59,7 +59,7 @@ fn ktantan_words(key: [u64; 80]) -> [u64; 508]
     words
 }
 
-// The words of all rounds, two a round: ka's and then kb's. A variant that is not 1 to 6 is taken as a KATAN below, as a KTANTAN above.
+// The words of all rounds, two a round: ka's and then kb's. The number 0 is taken as a KATAN, one above 6 as a KTANTAN.
 pub fn round_words(variant: u8, key: [u64; 80]) -> [u64; 508]
     ensures { λ r. ⌜ r ≡ roundWords variant key ⌝ }
 {

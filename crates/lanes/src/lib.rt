@@ -52,6 +52,7 @@ fn rows_of(blocks: &[u64]) -> [u64; LANES]
     rows
 }
 
+// All rounds on the words, either way.
 fn passed(direction: Direction, n: usize, keys: &[u64; 508], words: &[u64; 64]) -> [u64; 64]
     ensures { λ r. ⌜ r ≡ allRounds direction n (now (keys .entry)) (now (words .entry)) ⌝ }
 {
@@ -61,7 +62,7 @@ fn passed(direction: Direction, n: usize, keys: &[u64; 508], words: &[u64; 64]) 
     }
 }
 
-// All rounds, from the words of the blocks of n bits to the results as rows.
+// From the words of the blocks of n bits to the results as rows. `high` has bits 64 to 79 of the keys in its words 48 to 63.
 fn finished(
     direction: Direction,
     variant: u8,
