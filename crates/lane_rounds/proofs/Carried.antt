@@ -27,9 +27,20 @@ use Rattle.lane_rounds.specs.Words.{widthRow, laneBlock, laneInput, carr
 use Rattle.lane_rounds.specs.Buffers.{spread, KeptBelow, KeptFrom, Placed, Forward, Backward}
 use Rattle.lane_rounds.proofs.Columns.{lane-bits, block-bit, block-lt, history-carries}
 
--- a row by its width, where that is neither 32 nor 48
-pub other-width : (n : ℕ) → (n ≡ 32 → ⊥) → (n ≡ 48 → ⊥) → widthRow n ≡ row64
-other-width n p q = rw (ne-eqb n 32 p, ne-eqb n 48 q)
+-- a number that is neither 32 nor 48 stands for 64
+module _ (n : ℕ) (p : n ≡ 32 → ⊥) (q : n ≡ 48 → ⊥) (keys words : List ℕ) where
+  other-width : row64 ≡ widthRow n
+  other-width = rw (ne-eqb n 32 p, ne-eqb n 48 q)
+
+  pub other-carried : carried 64 keys words ≡ carried n keys words
+  unfolding carried
+  other-carried =
+      ap (λ (v : Row). transposed (tabulate (λ j. block v (run v (laneInput keys j) 0 rounds (registers v (laneBlock v words j)))) 0 64)) other-width
+
+  pub other-uncarried : uncarried 64 keys words ≡ uncarried n keys words
+  unfolding uncarried
+  other-uncarried =
+      ap (λ (v : Row). transposed (tabulate (λ j. block v (unrun v (laneInput keys j) 0 rounds (registers v (laneBlock v words j)))) 0 64)) other-width
 
 -- ---- the registers that a run starts from are still placed after it
 

@@ -15,6 +15,14 @@ use Rattle.katan.specs.declared.RoundInput.{RoundInput}
 use Rattle.lane_rounds.specs.Buffers.{tapped, Clocked}
 use Rattle.lane_rounds.proofs.Xors.{undone}
 
+-- n clocks from clock first on are made with one input
+abbrev pub Clocks : Row → RoundInput → (first n : ℕ) → List ℕ → List ℕ → Type 0
+Clocks v u first n a b = (c : ℕ) → c < n → Clocked v u (first + c) a b
+
+-- a tap below the register's highest bit lies in the buffer
+pub tap-in : (i top p n : ℕ) → i < top → top ≤ p → p < n → (i ≤ p) × (p < n)
+tap-in i top p n h k l = (omega arith, l)
+
 module _ (v : Row) (s : Sound v) where
   -- ---- the formulas see only their register's bits, and the rests only the lower ones
 

@@ -24,8 +24,8 @@ use Rattle.transpose.specs.Matrix.{column}
 use Rattle.transpose.proofs.Laws.{column-bit}
 use Rattle.transpose.proofs.Bits.{bit-shr, bit-suc, bits-equal}
 use Rattle.lane_rounds.specs.Words.{laneBlock, laneInput}
-use Rattle.lane_rounds.specs.Buffers.{tapped, spread, wordInput, Clocked, Clocks, History, Placed}
-use Rattle.lane_rounds.proofs.Clocks.{fa-same, fb-same}
+use Rattle.lane_rounds.specs.Buffers.{tapped, spread, wordInput, Clocked, History, Placed}
+use Rattle.lane_rounds.proofs.Clocks.{Clocks, fa-same, fb-same}
 
 -- the bits of a round's words for lane j
 abbrev laneBits : ℕ → RoundInput → RoundInput
@@ -76,13 +76,13 @@ module _ (v : Row) (s : Sound v) (j t : ℕ) (a b : List ℕ) (u : RoundInput) (
       }
 
 module _ (v : Row) (s : Sound v) (j : ℕ) (a b : List ℕ) where
-  clocks-stand : (u : RoundInput) (t n : ℕ) (g : Registers) → Clocks v u t 0 n a b → Stands v j a b t g
+  clocks-stand : (u : RoundInput) (t n : ℕ) (g : Registers) → Clocks v u t n a b → Stands v j a b t g
       → (c : ℕ) → c ≤ n → Stands v j a b (t + c) (clocks v (laneBits j u) c g)
   clocks-stand u t n g k h zero q = rw add-zero h
   clocks-stand u t n g k h (suc c) q =
       let e : t + c + 1 ≡ t + suc c = omega arith in
       subst (λ (y : ℕ). Stands v j a b y (clocks v (laneBits j u) (suc c) g)) e
-      (clock-stands v s j (t + c) a b u (clocks v (laneBits j u) c g) (k c (omega arith) q) (clocks-stand u t n g k h c (omega arith)))
+      (clock-stands v s j (t + c) a b u (clocks v (laneBits j u) c g) (k c q) (clocks-stand u t n g k h c (omega arith)))
 
   run-stands : (irs keys : List ℕ) (n : ℕ) (g : Registers) → History v irs keys 0 n a b → Stands v j a b 0 g
       → (m : ℕ) → m ≤ n → Stands v j a b (v .clocks * m) (run v (λ r. laneBits j (wordInput irs keys r)) 0 m g)
@@ -93,7 +93,7 @@ module _ (v : Row) (s : Sound v) (j : ℕ) (a b : List ℕ) where
       rw zero-add
       (subst (λ (y : ℕ). Stands v j a b y (clocks v (laneBits j u) (v .clocks) (run v (λ r. laneBits j (wordInput irs keys r)) 0 m g))) e
       (clocks-stand u (v .clocks * m) (v .clocks) (run v (λ r. laneBits j (wordInput irs keys r)) 0 m g)
-      (λ c z l. k m c (omega arith) q l) (run-stands irs keys n g k h m (omega arith)) (v .clocks) (omega arith)))
+      (λ c l. k m c (omega arith) q l) (run-stands irs keys n g k h m (omega arith)) (v .clocks) (omega arith)))
 
   -- ---- words as registers
 

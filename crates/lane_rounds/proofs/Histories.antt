@@ -14,8 +14,8 @@ use Rattle.katan.specs.Clock.{fa, fb, faRest, fbRest}
 use Rattle.katan.specs.Within.{Sound}
 use Rattle.katan.specs.declared.Row.{Row}
 use Rattle.katan.specs.declared.RoundInput.{RoundInput}
-use Rattle.lane_rounds.specs.Buffers.{tapped, Room, wordInput, Clocked, Clocks, History, KeptBelow, KeptFrom, Placed, Forward, Backward}
-use Rattle.lane_rounds.proofs.Clocks.{still, made, unmade}
+use Rattle.lane_rounds.specs.Buffers.{tapped, Room, wordInput, Clocked, History, KeptBelow, KeptFrom, Placed, Forward, Backward}
+use Rattle.lane_rounds.proofs.Clocks.{Clocks, still, made, unmade}
 
 pub room-set : {v : Row} {a b : List ℕ} → Room v a b → (i x k y : ℕ) → Room v (set a i x) (set b k y)
 room-set {v} {a} {b} r i x k y =
@@ -41,7 +41,7 @@ placed-at v t u words a b e p = subst (λ (n : ℕ). Placed v n words a b) e p
 -- the first i clocks of a round are made
 pub record Begun (v : Row) (u : RoundInput) (first i : ℕ) (a₀ b₀ a b : List ℕ) : Type 0 where
   pub room : Room v a b
-  pub clocks : Clocks v u first 0 i a b
+  pub clocks : Clocks v u first i a b
   pub kept : KeptBelow v first a₀ b₀ a b
 
 -- the clocks of a round from t on are made, up to clock first + n
@@ -70,14 +70,14 @@ module _ (v : Row) (s : Sound v) (u : RoundInput) (first : ℕ) (a₀ b₀ a b a
       rw (ea, eb)
       (record {
         room = room-set (g .room) (t + v .len1) wa (t + v .len2) wb;
-        clocks = λ c z q.
+        clocks = λ c q.
             let q′ : c ≤ i = omega arith in
             ⊎-elim
             (λ e. subst (λ (y : ℕ). Clocked v u (first + y) (set a (t + v .len1) wa) (set b (t + v .len2) wb)) (sym e) (made v s u t a b ha hb))
             (λ l. still v s u (first + c) a b (set a (t + v .len1) wa) (set b (t + v .len2) wb)
             (λ k m n. getD-set-other a (t + v .len1) k wa 0 (λ e. omega arith))
             (λ k m n. getD-set-other b (t + v .len2) k wb 0 (λ e. omega arith))
-            (g .clocks c z l))
+            (g .clocks c l))
             (eq-or-lt-of-le q′);
         kept = record {
           below1 = λ k q. getD-set-other a (t + v .len1) k wa 0 (λ e. omega arith) ∙ g .kept .below1 k q;
@@ -121,12 +121,12 @@ module _ (v : Row) (s : Sound v) (u : RoundInput) (first : ℕ) (a₀ b₀ a b a
 
 -- round r is made, from clock f on
 module _ (v : Row) (s : Sound v) (irs keys a₀ b₀ a b a′ b′ : List ℕ) (r f n : ℕ) (ef : f ≡ v .clocks * r) (en : n ≡ v .clocks)
-    (u : RoundInput) (eu : u ≡ wordInput irs keys r) (made-now : Clocks v u f 0 n a′ b′) where
+    (u : RoundInput) (eu : u ≡ wordInput irs keys r) (made-now : Clocks v u f n a′ b′) where
   round-clock : (q : ℕ) → r ≡ q → (c : ℕ) → c < v .clocks → Clocked v (wordInput irs keys q) (v .clocks * q + c) a′ b′
   round-clock q e c m =
       subst (λ (y : ℕ). Clocked v (wordInput irs keys y) (v .clocks * y + c) a′ b′) e
       (subst (λ (w : RoundInput). Clocked v w (v .clocks * r + c) a′ b′) eu
-      (subst (λ (y : ℕ). Clocked v u (y + c) a′ b′) ef (made-now c (omega arith) (omega arith))))
+      (subst (λ (y : ℕ). Clocked v u (y + c) a′ b′) ef (made-now c (omega arith))))
 
   -- forward
   module _ (k : KeptBelow v f a b a′ b′) where

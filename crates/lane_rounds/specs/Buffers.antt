@@ -33,10 +33,6 @@ pub record Clocked (v : Row) (u : RoundInput) (t : ℕ) (a b : List ℕ) : Type 
   pub into1 : getD a (t + v .len1) 0 ≡ fb xor and v (tapped b (t + v .y1)) (u .kb)
   pub into2 : getD b (t + v .len2) 0 ≡ fa xor and v (tapped a (t + v .x1)) (u .ir) (u .ka)
 
--- the clocks first + m to first + n - 1 are made with one input
-abbrev pub Clocks : Row → RoundInput → (first m n : ℕ) → List ℕ → List ℕ → Type 0
-Clocks v u first m n a b = (c : ℕ) → m ≤ c → c < n → Clocked v u (first + c) a b
-
 -- all clocks of the rounds p to q - 1 are made
 abbrev pub History : Row → (irs keys : List ℕ) → (p q : ℕ) → List ℕ → List ℕ → Type 0
 History v irs keys p q a b = (r c : ℕ) → p ≤ r → r < q → c < v .clocks → Clocked v (wordInput irs keys r) (v .clocks * r + c) a b

@@ -2,10 +2,10 @@
 ghost use mathlib.Core.Path.{_≡_};
 ghost use Prim.Native.Nat.{ℕ, _+_, _-_, _*_, _<_, _≤_};
 ghost use lib.ListN.{getD, length};
-ghost use Rattle.katan.specs.Counter.{rounds};
-ghost use Rattle.katan.specs.Within.{Sound};
+ghost use Rattle.katan.specs.Counter.{counter, irOf, rounds};
+ghost use Rattle.katan.specs.Within.{Sound, Entries};
 ghost use Rattle.lane_rounds.specs.Words.{carried, uncarried};
-ghost use Rattle.lane_rounds.specs.Buffers.{Room, Placed};
+ghost use Rattle.lane_rounds.specs.Buffers.{Room, spread, Placed};
 use crate::rounds::ir_words;
 use crate::rounds::run_32;
 use crate::rounds::run_48;
@@ -79,36 +79,88 @@ fn taken(v: Row, a: &[u64], b: &[u64], at: RoundPosition) -> [u64; 64]
     unloaded(words, v.len2, v.len1, a, t + v.x1)
 }
 
+// One width each: so each has buffers of its own length, and everything in it goes by constants.
+fn encrypted_32(irs: &[u64; 254], keys: &[u64; 508], words: &[u64; 64]) -> [u64; 64]
+    requires { ⌜ Entries (λ i. spread (irOf (counter i))) rounds (now irs) ⌝ }
+    ensures { λ r. ⌜ r ≡ carried 32 (now (keys .entry)) (now (words .entry)) ⌝ }
+{
+    let v = katan::row_32();
+    let mut a = [0u64; FIRST_32];
+    let mut b = [0u64; SECOND_32];
+    place(v, words, &mut a, &mut b, RoundPosition(0));
+    run_32(&mut a, &mut b, irs, keys);
+    taken(v, &a, &b, RoundPosition(ROUNDS))
+}
+
+fn encrypted_48(irs: &[u64; 254], keys: &[u64; 508], words: &[u64; 64]) -> [u64; 64]
+    requires { ⌜ Entries (λ i. spread (irOf (counter i))) rounds (now irs) ⌝ }
+    ensures { λ r. ⌜ r ≡ carried 48 (now (keys .entry)) (now (words .entry)) ⌝ }
+{
+    let v = katan::row_48();
+    let mut a = [0u64; FIRST_48];
+    let mut b = [0u64; SECOND_48];
+    place(v, words, &mut a, &mut b, RoundPosition(0));
+    run_48(&mut a, &mut b, irs, keys);
+    taken(v, &a, &b, RoundPosition(ROUNDS))
+}
+
+fn encrypted_64(irs: &[u64; 254], keys: &[u64; 508], words: &[u64; 64]) -> [u64; 64]
+    requires { ⌜ Entries (λ i. spread (irOf (counter i))) rounds (now irs) ⌝ }
+    ensures { λ r. ⌜ r ≡ carried 64 (now (keys .entry)) (now (words .entry)) ⌝ }
+{
+    let v = katan::row_64();
+    let mut a = [0u64; FIRST_64];
+    let mut b = [0u64; SECOND_64];
+    place(v, words, &mut a, &mut b, RoundPosition(0));
+    run_64(&mut a, &mut b, irs, keys);
+    taken(v, &a, &b, RoundPosition(ROUNDS))
+}
+
+fn decrypted_32(irs: &[u64; 254], keys: &[u64; 508], words: &[u64; 64]) -> [u64; 64]
+    requires { ⌜ Entries (λ i. spread (irOf (counter i))) rounds (now irs) ⌝ }
+    ensures { λ r. ⌜ r ≡ uncarried 32 (now (keys .entry)) (now (words .entry)) ⌝ }
+{
+    let v = katan::row_32();
+    let mut a = [0u64; FIRST_32];
+    let mut b = [0u64; SECOND_32];
+    place(v, words, &mut a, &mut b, RoundPosition(ROUNDS));
+    unrun_32(&mut a, &mut b, irs, keys);
+    taken(v, &a, &b, RoundPosition(0))
+}
+
+fn decrypted_48(irs: &[u64; 254], keys: &[u64; 508], words: &[u64; 64]) -> [u64; 64]
+    requires { ⌜ Entries (λ i. spread (irOf (counter i))) rounds (now irs) ⌝ }
+    ensures { λ r. ⌜ r ≡ uncarried 48 (now (keys .entry)) (now (words .entry)) ⌝ }
+{
+    let v = katan::row_48();
+    let mut a = [0u64; FIRST_48];
+    let mut b = [0u64; SECOND_48];
+    place(v, words, &mut a, &mut b, RoundPosition(ROUNDS));
+    unrun_48(&mut a, &mut b, irs, keys);
+    taken(v, &a, &b, RoundPosition(0))
+}
+
+fn decrypted_64(irs: &[u64; 254], keys: &[u64; 508], words: &[u64; 64]) -> [u64; 64]
+    requires { ⌜ Entries (λ i. spread (irOf (counter i))) rounds (now irs) ⌝ }
+    ensures { λ r. ⌜ r ≡ uncarried 64 (now (keys .entry)) (now (words .entry)) ⌝ }
+{
+    let v = katan::row_64();
+    let mut a = [0u64; FIRST_64];
+    let mut b = [0u64; SECOND_64];
+    place(v, words, &mut a, &mut b, RoundPosition(ROUNDS));
+    unrun_64(&mut a, &mut b, irs, keys);
+    taken(v, &a, &b, RoundPosition(0))
+}
+
 // All rounds forward, for blocks of n bits: 32, 48, and 64 for any other number.
 pub fn encrypted(n: usize, keys: &[u64; 508], words: &[u64; 64]) -> [u64; 64]
     ensures { λ r. ⌜ r ≡ carried n (now (keys .entry)) (now (words .entry)) ⌝ }
 {
     let irs = ir_words();
     match n {
-        32 => {
-            let v = katan::row_32();
-            let mut a = [0u64; FIRST_32];
-            let mut b = [0u64; SECOND_32];
-            place(v, words, &mut a, &mut b, RoundPosition(0));
-            run_32(&mut a, &mut b, &irs, keys);
-            taken(v, &a, &b, RoundPosition(ROUNDS))
-        }
-        48 => {
-            let v = katan::row_48();
-            let mut a = [0u64; FIRST_48];
-            let mut b = [0u64; SECOND_48];
-            place(v, words, &mut a, &mut b, RoundPosition(0));
-            run_48(&mut a, &mut b, &irs, keys);
-            taken(v, &a, &b, RoundPosition(ROUNDS))
-        }
-        _ => {
-            let v = katan::row_64();
-            let mut a = [0u64; FIRST_64];
-            let mut b = [0u64; SECOND_64];
-            place(v, words, &mut a, &mut b, RoundPosition(0));
-            run_64(&mut a, &mut b, &irs, keys);
-            taken(v, &a, &b, RoundPosition(ROUNDS))
-        }
+        32 => encrypted_32(&irs, keys, words),
+        48 => encrypted_48(&irs, keys, words),
+        _ => encrypted_64(&irs, keys, words),
     }
 }
 
@@ -118,29 +170,8 @@ pub fn decrypted(n: usize, keys: &[u64; 508], words: &[u64; 64]) -> [u64; 64]
 {
     let irs = ir_words();
     match n {
-        32 => {
-            let v = katan::row_32();
-            let mut a = [0u64; FIRST_32];
-            let mut b = [0u64; SECOND_32];
-            place(v, words, &mut a, &mut b, RoundPosition(ROUNDS));
-            unrun_32(&mut a, &mut b, &irs, keys);
-            taken(v, &a, &b, RoundPosition(0))
-        }
-        48 => {
-            let v = katan::row_48();
-            let mut a = [0u64; FIRST_48];
-            let mut b = [0u64; SECOND_48];
-            place(v, words, &mut a, &mut b, RoundPosition(ROUNDS));
-            unrun_48(&mut a, &mut b, &irs, keys);
-            taken(v, &a, &b, RoundPosition(0))
-        }
-        _ => {
-            let v = katan::row_64();
-            let mut a = [0u64; FIRST_64];
-            let mut b = [0u64; SECOND_64];
-            place(v, words, &mut a, &mut b, RoundPosition(ROUNDS));
-            unrun_64(&mut a, &mut b, &irs, keys);
-            taken(v, &a, &b, RoundPosition(0))
-        }
+        32 => decrypted_32(&irs, keys, words),
+        48 => decrypted_48(&irs, keys, words),
+        _ => decrypted_64(&irs, keys, words),
     }
 }

@@ -9,8 +9,7 @@ ghost use Rattle.katan.specs.Clock.{fa, fb, faRest, fbRest};
 ghost use Rattle.katan.specs.Variant.{row32, row48, row64};
 ghost use Rattle.katan.specs.Within.{Sound, Entries};
 ghost use mathlib.Core.List.{List};
-ghost use Rattle.lane_rounds.specs.Buffers.{tapped, Room, spread, wordInput, Clocks, KeptBelow, KeptFrom, Forward, Backward};
-use katan::ClockNumber;
+ghost use Rattle.lane_rounds.specs.Buffers.{tapped, Room, spread, wordInput, Forward, Backward};
 use katan::RoundInput;
 use katan::RoundPosition;
 use katan::Row;
@@ -73,31 +72,6 @@ fn unclock_at(v: Row, a: &mut [u64], b: &mut [u64], t: usize, u: RoundInput)
     b[t] = left2;
 }
 
-fn round_at(v: Row, n: usize, a: &mut [u64], b: &mut [u64], from: ClockNumber, u: RoundInput)
-    requires { ⌜ Sound v × Room v (now a) (now b) × (from .0 + n ≤ v .clocks * rounds) ⌝ }
-    ensures { λ r. ⌜ Room v (now (a .exit)) (now (b .exit)) ⌝ }
-    ensures { λ r. ⌜ Clocks v u (from .0) 0 n (now (a .exit)) (now (b .exit)) ⌝ }
-    ensures { λ r. ⌜ KeptBelow v (from .0) (now (a .entry)) (now (b .entry)) (now (a .exit)) (now (b .exit)) ⌝ }
-{
-    let first = from.0;
-    for i in 0..n {
-        clock_at(v, a, b, first + i, u);
-    }
-}
-
-// The last clock first.
-fn unround_at(v: Row, n: usize, a: &mut [u64], b: &mut [u64], from: ClockNumber, u: RoundInput)
-    requires { ⌜ Sound v × Room v (now a) (now b) × (from .0 + n ≤ v .clocks * rounds) ⌝ }
-    ensures { λ r. ⌜ Room v (now (a .exit)) (now (b .exit)) ⌝ }
-    ensures { λ r. ⌜ Clocks v u (from .0) 0 n (now (a .exit)) (now (b .exit)) ⌝ }
-    ensures { λ r. ⌜ KeptFrom (from .0 + n) (now (a .entry)) (now (b .entry)) (now (a .exit)) (now (b .exit)) ⌝ }
-{
-    let first = from.0;
-    for i in 0..n {
-        unclock_at(v, a, b, first + n - i - 1, u);
-    }
-}
-
 fn input_at(irs: &[u64; 254], keys: &[u64; 508], r: usize) -> RoundInput
     requires { ⌜ r < rounds ⌝ }
     ensures { λ u. ⌜ u ≡ wordInput (now (irs .entry)) (now (keys .entry)) r ⌝ }
@@ -124,12 +98,14 @@ fn round_in(
     ensures { λ q. ⌜ Room v (now (a .exit)) (now (b .exit)) ⌝ }
     ensures { λ q. ⌜ ((a₀ b₀ : List ℕ) → Forward v (now (irs .entry)) (now (keys .entry)) r a₀ b₀ (now (a .entry)) (now (b .entry)) → Forward v (now (irs .entry)) (now (keys .entry)) (r + 1) a₀ b₀ (now (a .exit)) (now (b .exit))) ⌝ }
 {
-    let from = katan::first_clock(v, RoundPosition(r));
+    let first = katan::first_clock(v, RoundPosition(r)).0;
     let u = input_at(irs, keys, r as usize);
-    round_at(v, n, a, b, from, u);
+    for i in 0..n {
+        clock_at(v, a, b, first + i, u);
+    }
 }
 
-// Round r.
+// Round r undone, the last clock first.
 fn unround_in(
     v: Row,
     n: usize,
@@ -143,27 +119,25 @@ fn unround_in(
     ensures { λ q. ⌜ Room v (now (a .exit)) (now (b .exit)) ⌝ }
     ensures { λ q. ⌜ ((a₀ b₀ : List ℕ) → Backward v (now (irs .entry)) (now (keys .entry)) (r + 1) a₀ b₀ (now (a .entry)) (now (b .entry)) → Backward v (now (irs .entry)) (now (keys .entry)) r a₀ b₀ (now (a .exit)) (now (b .exit))) ⌝ }
 {
-    let from = katan::first_clock(v, RoundPosition(r));
+    let first = katan::first_clock(v, RoundPosition(r)).0;
     let u = input_at(irs, keys, r as usize);
-    unround_at(v, n, a, b, from, u);
+    for i in 0..n {
+        unclock_at(v, a, b, first + n - i - 1, u);
+    }
 }
 
-// All rounds, a loop for each width: there the row and its clocks are constants, and several rounds a turn let neighbouring clocks share
-// their loads. Each loop is called once, so that it is inlined where the buffers are known to be two.
+// All rounds, a loop for each width: there the row and its clocks are constants, and a turn of two clocks, or of six, becomes operations
+// on pairs of words. Each loop is called once, so that it is inlined where the buffers are known to be two.
 pub fn run_32(a: &mut [u64], b: &mut [u64], irs: &[u64; 254], keys: &[u64; 508])
     requires { ⌜ Room row32 (now a) (now b) ⌝ }
     ensures { λ r. ⌜ Forward row32 (now (irs .entry)) (now (keys .entry)) rounds (now (a .entry)) (now (b .entry)) (now (a .exit)) (now (b .exit)) ⌝ }
 {
     let v = katan::row_32();
-    for h in 0..63u8 {
-        let r = 4 * h;
+    for h in 0..127u8 {
+        let r = 2 * h;
         round_in(v, 1, a, b, irs, keys, r);
         round_in(v, 1, a, b, irs, keys, r + 1);
-        round_in(v, 1, a, b, irs, keys, r + 2);
-        round_in(v, 1, a, b, irs, keys, r + 3);
     }
-    round_in(v, 1, a, b, irs, keys, 252);
-    round_in(v, 1, a, b, irs, keys, 253);
 }
 
 pub fn run_48(a: &mut [u64], b: &mut [u64], irs: &[u64; 254], keys: &[u64; 508])
@@ -171,10 +145,8 @@ pub fn run_48(a: &mut [u64], b: &mut [u64], irs: &[u64; 254], keys: &[u64; 508])
     ensures { λ r. ⌜ Forward row48 (now (irs .entry)) (now (keys .entry)) rounds (now (a .entry)) (now (b .entry)) (now (a .exit)) (now (b .exit)) ⌝ }
 {
     let v = katan::row_48();
-    for h in 0..127u8 {
-        let r = 2 * h;
+    for r in 0..254u8 {
         round_in(v, 2, a, b, irs, keys, r);
-        round_in(v, 2, a, b, irs, keys, r + 1);
     }
 }
 
@@ -196,15 +168,11 @@ pub fn unrun_32(a: &mut [u64], b: &mut [u64], irs: &[u64; 254], keys: &[u64; 508
 {
     let v = katan::row_32();
     let mut r: u8 = 254;
-    for h in 0..63u8 {
-        r -= 4;
-        unround_in(v, 1, a, b, irs, keys, r + 3);
-        unround_in(v, 1, a, b, irs, keys, r + 2);
+    for h in 0..127u8 {
+        r -= 2;
         unround_in(v, 1, a, b, irs, keys, r + 1);
         unround_in(v, 1, a, b, irs, keys, r);
     }
-    unround_in(v, 1, a, b, irs, keys, 1);
-    unround_in(v, 1, a, b, irs, keys, 0);
 }
 
 pub fn unrun_48(a: &mut [u64], b: &mut [u64], irs: &[u64; 254], keys: &[u64; 508])
@@ -213,9 +181,8 @@ pub fn unrun_48(a: &mut [u64], b: &mut [u64], irs: &[u64; 254], keys: &[u64; 508
 {
     let v = katan::row_48();
     let mut r: u8 = 254;
-    for h in 0..127u8 {
-        r -= 2;
-        unround_in(v, 2, a, b, irs, keys, r + 1);
+    for h in 0..254u8 {
+        r -= 1;
         unround_in(v, 2, a, b, irs, keys, r);
     }
 }

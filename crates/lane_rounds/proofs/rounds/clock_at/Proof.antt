@@ -1,70 +1,102 @@
 -- `lane_rounds::rounds::clock_at` meets its contract.
 -- Assumes nothing.
-use mathlib.Core.Path.{_≡_}
-use Prim.Native.Nat.{_+_}
+use mathlib.Core.Path.{_≡_, sym, ap, ap₂}
+use Prim.Native.Nat.{ℕ, _+_}
 use native.Mathlib.Omega.{arith}
 use native.Mathlib.Nat.{add-sub-cancel}
-use borrow.Author.Needs.{needs}
+use lib.ListN.{getD, set, length-set}
+use Rattle.katan.specs.Bit.{xor}
 use Rattle.lane_rounds.proofs.rounds.clock_at.Statement.{statement}
 use Rattle.lane_rounds.proofs.rounds.clock_at.Tie as tie
 
 add-p : tie.Need-add-p
-add-p c = search needs
+add-p c =
+    let d = c .before .before .before in
+    omega (arith, d .pre .0 .top1, d .pre .0 .top2, d .pre .1, d .pre .2, d .good)
 
 add-q : tie.Need-add-q
-add-q c = search needs
+add-q c =
+    let d = c .before .before .before .before in
+    omega (arith, d .pre .0 .top1, d .pre .0 .top2, d .pre .1, d .pre .2, d .good)
 
 mul-fa : tie.Need-mul-fa
-mul-fa c = search needs
+mul-fa c =
+    let d = c .before .before .before .before in
+    omega (arith, d .pre .0 .top1, d .pre .0 .top2, d .pre .1, d .pre .2, d .good)
 
 slice-read-fa : tie.Need-slice-read-fa
-slice-read-fa c = search needs
+slice-read-fa c =
+    let d = c .before .before .before .before .before in
+    omega (arith, d .pre .0 .top1, d .pre .0 .top2, d .pre .1, d .pre .2, d .good)
 
 fa-rest-requires : tie.Need-fa-rest-requires
-fa-rest-requires c κs = search needs
+fa-rest-requires c κs =
+    let d = c .before .before .before .before .before .before in
+    (d .pre .0, omega arith, omega (arith, d .pre .0 .top1, d .pre .1))
 
 mul-fb : tie.Need-mul-fb
-mul-fb c = search needs
+mul-fb c =
+    let d = c .before .before .before .before .before .before .before in
+    omega (arith, d .pre .0 .top1, d .pre .0 .top2, d .pre .1, d .pre .2, d .good)
 
 slice-read-fb : tie.Need-slice-read-fb
-slice-read-fb c = search needs
+slice-read-fb c =
+    let d = c .before .before .before .before .before .before .before .before in
+    omega (arith, d .pre .0 .top1, d .pre .0 .top2, d .pre .1, d .pre .2, d .good)
 
 fb-rest-requires : tie.Need-fb-rest-requires
-fb-rest-requires c κs = search needs
+fb-rest-requires c κs =
+    let d = c .before .before .before .before .before .before .before .before .before in
+    (d .pre .0, omega arith, omega (arith, d .pre .0 .top2, d .pre .2))
 
 add-a : tie.Need-add-a
-add-a c = search needs
+add-a c =
+    let d = c .before .before .before .before .before .before .before .before .before .before in
+    omega (arith, d .pre .0 .top1, d .pre .0 .top2, d .pre .1, d .pre .2, d .good)
 
 mul-a : tie.Need-mul-a
-mul-a c = search needs
+mul-a c =
+    let d = c .before .before .before .before .before .before .before .before .before .before in
+    omega (arith, d .pre .0 .top1, d .pre .0 .top2, d .pre .1, d .pre .2, d .good)
 
 slice-write-a : tie.Need-slice-write-a
-slice-write-a c = search needs
+slice-write-a c =
+    let d = c .before .before .before .before .before .before .before .before .before .before in
+    omega (arith, d .pre .0 .top1, d .pre .0 .top2, d .pre .1, d .pre .2, d .good)
 
 add-b : tie.Need-add-b
-add-b c = search needs
+add-b c =
+    let d = c .before .before .before .before .before .before .before .before .before .before in
+    omega (arith, d .pre .0 .top1, d .pre .0 .top2, d .pre .1, d .pre .2, d .good)
 
 mul-b : tie.Need-mul-b
-mul-b c = search needs
+mul-b c =
+    let d = c .before .before .before .before .before .before .before .before .before .before in
+    omega (arith, d .pre .0 .top1, d .pre .0 .top2, d .pre .1, d .pre .2, d .good)
 
 slice-write-b : tie.Need-slice-write-b
-slice-write-b c = search needs
+slice-write-b c =
+    let d = c .before .before .before .before .before .before .before .before .before .before in
+    omega (arith, d .pre .0 .top1, d .pre .0 .top2, d .pre .1, d .pre .2, d .good)
 
 same-length : tie.Need-same-length
-same-length c = search needs
+same-length c = simp length-set
 
 same-length-2 : tie.Need-same-length-2
-same-length-2 c = search needs
+same-length-2 c = simp length-set
 
 returns : tie.Need-returns
 returns c =
     let d = c .before .before .before .before .before .before .before .before .before .before in
     let t = d .args .t in
     let v = d .args .v in
-    let s = d .pre .0 in
-    let p : t + v .x1 + 1 ≡ t + v .len1 = omega (arith, s .top1) in
-    let q : t + v .y1 + 1 ≡ t + v .len2 = omega (arith, s .top2) in
-    (cc (add-sub-cancel t (v .y1)), cc (add-sub-cancel t (v .x1)))
+    let a = d .args .a .now in
+    let b = d .args .b .now in
+    let p : t + v .x1 + 1 ≡ t + v .len1 = omega (arith, d .pre .0 .top1) in
+    let q : t + v .y1 + 1 ≡ t + v .len2 = omega (arith, d .pre .0 .top2) in (
+      ap₂ (set a) p (ap₂ xor (ap (λ (n : ℕ). getD b n 0) (sym (add-sub-cancel t (v .y1)))) (c .fb-rest .ensures)),
+      ap₂ (set b) q (ap₂ xor (ap (λ (n : ℕ). getD a n 0) (sym (add-sub-cancel t (v .x1)))) (c .before .before .before .fa-rest .ensures)),
+    )
 
 pub clock-at-spec : {M : Type 1} → statement M
 clock-at-spec =

@@ -1,4 +1,4 @@
--- `lane_rounds::rounds::run_32` meets its contract. The loop's invariant: the rounds before 4 h are made.
+-- `lane_rounds::rounds::run_32` meets its contract. The loop's invariant: the rounds before 2 h are made.
 -- Assumes nothing.
 use mathlib.Core.Path.{refl, sym}
 use Prim.Native.Nat.{_+_, _-_, _*_, _≤_}
@@ -12,10 +12,10 @@ use Rattle.lane_rounds.proofs.rounds.run_32.Statement.{statement}
 use Rattle.lane_rounds.proofs.rounds.run_32.Tie as tie
 
 abbrev Inv-loop : tie.InvT-loop
-Inv-loop a₀ b₀ irs keys v h₀ a b h = (h ≤ 63) × Forward v irs keys (4 * h) a₀ b₀ a b
+Inv-loop a₀ b₀ irs keys v h₀ a b h = (h ≤ 127) × Forward v irs keys (2 * h) a₀ b₀ a b
 
 abbrev μ-loop : tie.MeasureT-loop
-μ-loop a₀ b₀ irs keys v h₀ a b h = 63 - h
+μ-loop a₀ b₀ irs keys v h₀ a b h = 127 - h
 
 row-32-requires : tie.Need-row-32-requires Inv-loop μ-loop
 row-32-requires c κs = search needs
@@ -35,18 +35,6 @@ add-round-in c = omega arith
 round-in-requires-2 : tie.Need-round-in-requires-2 Inv-loop μ-loop
 round-in-requires-2 c κs = ready _ _ (c .before .before .before .before .before .before .before .before .before .before .before .row-32 .ensures) (sound 1) (c .before .before .before .before .before .before .round-in .ensures .0) _ (omega arith)
 
-add-round-in-2 : tie.Need-add-round-in-2 Inv-loop μ-loop
-add-round-in-2 c = omega arith
-
-round-in-requires-3 : tie.Need-round-in-requires-3 Inv-loop μ-loop
-round-in-requires-3 c κs = ready _ _ (c .before .before .before .before .before .before .before .before .before .before .before .before .before .before .before .before .before .before .row-32 .ensures) (sound 1) (c .before .before .before .before .before .before .round-in2 .ensures .0) _ (omega arith)
-
-add-round-in-3 : tie.Need-add-round-in-3 Inv-loop μ-loop
-add-round-in-3 c = omega arith
-
-round-in-requires-4 : tie.Need-round-in-requires-4 Inv-loop μ-loop
-round-in-requires-4 c κs = ready _ _ (c .before .before .before .before .before .before .before .before .before .before .before .before .before .before .before .before .before .before .before .before .before .before .before .before .before .row-32 .ensures) (sound 1) (c .before .before .before .before .before .before .round-in3 .ensures .0) _ (omega arith)
-
 add-h : tie.Need-add-h Inv-loop μ-loop
 add-h c = omega arith
 
@@ -55,31 +43,22 @@ loop-less c = omega arith
 
 loop-again : tie.Need-loop-again Inv-loop μ-loop
 loop-again c =
-    let l = c .before .before .before .before .before .before .before .before .before .before .before .before .before .before .before .before .before .before .before .before .before .before .before .before .before .before .before .before .before .loop in
-    let f1 = c .before .before .before .before .before .before .before .before .before .before .before .before .before .before .before .before .before .before .before .before .before .before .before .before .before .round-in .ensures .1 _ _ (l .inv .1) in
-    let f2 = c .before .before .before .before .before .before .before .before .before .before .before .before .before .before .before .before .before .before .round-in2 .ensures .1 _ _ f1 in
-    let f3 = c .before .before .before .before .before .before .before .before .before .before .before .round-in3 .ensures .1 _ _ (forward-as _ _ refl (4 * l .h + 1 + 1) (4 * l .h + 2) (omega arith) f2) in
-    let f4 = c .before .before .before .before .round-in4 .ensures .1 _ _ (forward-as _ _ refl (4 * l .h + 2 + 1) (4 * l .h + 3) (omega arith) f3) in
-    (omega (arith, c .before .before .before .before .before .before .before .before .before .before .before .before .before .before .before .before .before .before .before .before .before .before .before .before .before .before .before .before .loop-test .taken), forward-as _ _ refl (4 * l .h + 3 + 1) (4 * (l .h + 1)) (omega arith) f4)
-
-round-in-requires-5 : tie.Need-round-in-requires-5 Inv-loop μ-loop
-round-in-requires-5 c κs = ready _ _ (c .before .before .before .before .row-32 .ensures) (sound 1) (c .before .before .before .loop .inv .1 .room) _ (omega arith)
-
-round-in-requires-6 : tie.Need-round-in-requires-6 Inv-loop μ-loop
-round-in-requires-6 c κs = ready _ _ (c .before .before .before .before .before .before .before .before .before .before .before .row-32 .ensures) (sound 1) (c .before .before .before .before .before .before .round-in5 .ensures .0) _ (omega arith)
+    let l = c .before .before .before .before .before .before .before .before .before .before .before .before .before .before .before .loop in
+    let f1 = c .before .before .before .before .before .before .before .before .before .before .before .round-in .ensures .1 _ _ (l .inv .1) in
+    let f2 = c .before .before .before .before .round-in2 .ensures .1 _ _ f1 in
+    (omega arith, forward-as _ _ refl (2 * l .h + 1 + 1) (2 * (l .h + 1)) (omega arith) f2)
 
 same-length : tie.Need-same-length Inv-loop μ-loop
-same-length c = search needs
+same-length c = c .before .loop .inv .1 .kept .long1
 
 same-length-2 : tie.Need-same-length-2 Inv-loop μ-loop
-same-length-2 c = search needs
+same-length-2 c = c .before .loop .inv .1 .kept .long2
 
 returns : tie.Need-returns Inv-loop μ-loop
 returns c =
-    let l = c .before .before .before .before .before .before .before .before .before .before .before .before .before .before .before .loop in
-    let f5 = c .before .before .before .before .before .before .before .before .before .before .before .round-in5 .ensures .1 _ _ (forward-as _ _ refl (4 * l .h) 252 (omega arith) (l .inv .1)) in
-    let f6 = c .before .before .before .before .round-in6 .ensures .1 _ _ f5 in
-    forward-as _ _ (c .before .before .before .before .before .before .before .before .before .before .before .before .before .before .before .before .row-32 .ensures) 254 254 refl f6
+    let l = c .before .loop in
+    let e = c .before .before .row-32 .ensures in
+    forward-as _ _ e (2 * l .h) 254 (omega arith) (l .inv .1)
 
 pub run-32-spec : {M : Type 1} → statement M
 run-32-spec =
@@ -93,15 +72,9 @@ run-32-spec =
     round-in-requires
     add-round-in
     round-in-requires-2
-    add-round-in-2
-    round-in-requires-3
-    add-round-in-3
-    round-in-requires-4
     add-h
     loop-less
     loop-again
-    round-in-requires-5
-    round-in-requires-6
     same-length
     same-length-2
     returns)

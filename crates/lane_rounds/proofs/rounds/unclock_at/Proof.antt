@@ -1,69 +1,101 @@
 -- `lane_rounds::rounds::unclock_at` meets its contract.
 -- Assumes nothing.
-use mathlib.Core.Path.{_≡_}
-use Prim.Native.Nat.{_+_}
+use mathlib.Core.Path.{_≡_, ap, ap₂}
+use Prim.Native.Nat.{ℕ, _+_}
 use native.Mathlib.Omega.{arith}
-use borrow.Author.Needs.{needs}
+use lib.ListN.{getD, set, length-set}
+use Rattle.katan.specs.Bit.{xor}
 use Rattle.lane_rounds.proofs.rounds.unclock_at.Statement.{statement}
 use Rattle.lane_rounds.proofs.rounds.unclock_at.Tie as tie
 
 add-p : tie.Need-add-p
-add-p c = search needs
+add-p c =
+    let d = c .before .before .before in
+    omega (arith, d .pre .0 .top1, d .pre .0 .top2, d .pre .1, d .pre .2, d .good)
 
 add-q : tie.Need-add-q
-add-q c = search needs
+add-q c =
+    let d = c .before .before .before .before in
+    omega (arith, d .pre .0 .top1, d .pre .0 .top2, d .pre .1, d .pre .2, d .good)
 
 add-left1 : tie.Need-add-left1
-add-left1 c = search needs
+add-left1 c =
+    let d = c .before .before .before .before in
+    omega (arith, d .pre .0 .top1, d .pre .0 .top2, d .pre .1, d .pre .2, d .good)
 
 mul-left1 : tie.Need-mul-left1
-mul-left1 c = search needs
+mul-left1 c =
+    let d = c .before .before .before .before in
+    omega (arith, d .pre .0 .top1, d .pre .0 .top2, d .pre .1, d .pre .2, d .good)
 
 slice-read-left1 : tie.Need-slice-read-left1
-slice-read-left1 c = search needs
+slice-read-left1 c =
+    let d = c .before .before .before .before .before in
+    omega (arith, d .pre .0 .top1, d .pre .0 .top2, d .pre .1, d .pre .2, d .good)
 
 fa-rest-requires : tie.Need-fa-rest-requires
-fa-rest-requires c κs = search needs
+fa-rest-requires c κs =
+    let d = c .before .before .before .before .before .before in
+    (d .pre .0, omega arith, omega (arith, d .pre .0 .top1, d .pre .1))
 
 add-left2 : tie.Need-add-left2
-add-left2 c = search needs
+add-left2 c =
+    let d = c .before .before .before .before .before .before .before in
+    omega (arith, d .pre .0 .top1, d .pre .0 .top2, d .pre .1, d .pre .2, d .good)
 
 mul-left2 : tie.Need-mul-left2
-mul-left2 c = search needs
+mul-left2 c =
+    let d = c .before .before .before .before .before .before .before in
+    omega (arith, d .pre .0 .top1, d .pre .0 .top2, d .pre .1, d .pre .2, d .good)
 
 slice-read-left2 : tie.Need-slice-read-left2
-slice-read-left2 c = search needs
+slice-read-left2 c =
+    let d = c .before .before .before .before .before .before .before .before in
+    omega (arith, d .pre .0 .top1, d .pre .0 .top2, d .pre .1, d .pre .2, d .good)
 
 fb-rest-requires : tie.Need-fb-rest-requires
-fb-rest-requires c κs = search needs
+fb-rest-requires c κs =
+    let d = c .before .before .before .before .before .before .before .before .before in
+    (d .pre .0, omega arith, omega (arith, d .pre .0 .top2, d .pre .2))
 
 mul-a : tie.Need-mul-a
-mul-a c = search needs
+mul-a c =
+    let d = c .before .before .before .before .before .before .before .before .before .before in
+    omega (arith, d .pre .0 .top1, d .pre .0 .top2, d .pre .1, d .pre .2, d .good)
 
 slice-write-a : tie.Need-slice-write-a
-slice-write-a c = search needs
+slice-write-a c =
+    let d = c .before .before .before .before .before .before .before .before .before .before in
+    omega (arith, d .pre .0 .top1, d .pre .0 .top2, d .pre .1, d .pre .2, d .good)
 
 mul-b : tie.Need-mul-b
-mul-b c = search needs
+mul-b c =
+    let d = c .before .before .before .before .before .before .before .before .before .before in
+    omega (arith, d .pre .0 .top1, d .pre .0 .top2, d .pre .1, d .pre .2, d .good)
 
 slice-write-b : tie.Need-slice-write-b
-slice-write-b c = search needs
+slice-write-b c =
+    let d = c .before .before .before .before .before .before .before .before .before .before in
+    omega (arith, d .pre .0 .top1, d .pre .0 .top2, d .pre .1, d .pre .2, d .good)
 
 same-length : tie.Need-same-length
-same-length c = search needs
+same-length c = simp length-set
 
 same-length-2 : tie.Need-same-length-2
-same-length-2 c = search needs
+same-length-2 c = simp length-set
 
 returns : tie.Need-returns
 returns c =
     let d = c .before .before .before .before .before .before .before .before .before .before in
     let t = d .args .t in
     let v = d .args .v in
-    let s = d .pre .0 in
-    let p : t + v .x1 + 1 ≡ t + v .len1 = omega (arith, s .top1) in
-    let q : t + v .y1 + 1 ≡ t + v .len2 = omega (arith, s .top2) in
-    (cc, cc)
+    let a = d .args .a .now in
+    let b = d .args .b .now in
+    let p : t + v .x1 + 1 ≡ t + v .len1 = omega (arith, d .pre .0 .top1) in
+    let q : t + v .y1 + 1 ≡ t + v .len2 = omega (arith, d .pre .0 .top2) in (
+      ap (set a t) (ap₂ xor (ap (λ (n : ℕ). getD b n 0) q) (c .before .before .before .fa-rest .ensures)),
+      ap (set b t) (ap₂ xor (ap (λ (n : ℕ). getD a n 0) p) (c .fb-rest .ensures)),
+    )
 
 pub unclock-at-spec : {M : Type 1} → statement M
 unclock-at-spec =

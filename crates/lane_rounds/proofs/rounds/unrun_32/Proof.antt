@@ -12,10 +12,10 @@ use Rattle.lane_rounds.proofs.rounds.unrun_32.Statement.{statement}
 use Rattle.lane_rounds.proofs.rounds.unrun_32.Tie as tie
 
 abbrev Inv-loop : tie.InvT-loop
-Inv-loop a₀ b₀ irs keys v r₀ h₀ a b r h = (h ≤ 63) × (r + 4 * h ≡ 254) × Backward v irs keys r a₀ b₀ a b
+Inv-loop a₀ b₀ irs keys v r₀ h₀ a b r h = (h ≤ 127) × (r + 2 * h ≡ 254) × Backward v irs keys r a₀ b₀ a b
 
 abbrev μ-loop : tie.MeasureT-loop
-μ-loop a₀ b₀ irs keys v r₀ h₀ a b r h = 63 - h
+μ-loop a₀ b₀ irs keys v r₀ h₀ a b r h = 127 - h
 
 row-32-requires : tie.Need-row-32-requires Inv-loop μ-loop
 row-32-requires c κs = search needs
@@ -32,20 +32,8 @@ add-unround-in c = omega arith
 unround-in-requires : tie.Need-unround-in-requires Inv-loop μ-loop
 unround-in-requires c κs = ready _ _ (c .before .before .before .before .row-32 .ensures) (sound 1) (c .before .before .before .loop .inv .2 .room) _ (omega arith)
 
-add-unround-in-2 : tie.Need-add-unround-in-2 Inv-loop μ-loop
-add-unround-in-2 c = omega arith
-
 unround-in-requires-2 : tie.Need-unround-in-requires-2 Inv-loop μ-loop
 unround-in-requires-2 c κs = ready _ _ (c .before .before .before .before .before .before .before .before .before .before .before .row-32 .ensures) (sound 1) (c .before .before .before .before .before .before .unround-in .ensures .0) _ (omega arith)
-
-add-unround-in-3 : tie.Need-add-unround-in-3 Inv-loop μ-loop
-add-unround-in-3 c = omega arith
-
-unround-in-requires-3 : tie.Need-unround-in-requires-3 Inv-loop μ-loop
-unround-in-requires-3 c κs = ready _ _ (c .before .before .before .before .before .before .before .before .before .before .before .before .before .before .before .before .before .before .row-32 .ensures) (sound 1) (c .before .before .before .before .before .before .unround-in2 .ensures .0) _ (omega arith)
-
-unround-in-requires-4 : tie.Need-unround-in-requires-4 Inv-loop μ-loop
-unround-in-requires-4 c κs = ready _ _ (c .before .before .before .before .before .before .before .before .before .before .before .before .before .before .before .before .before .before .before .before .before .before .before .before .before .row-32 .ensures) (sound 1) (c .before .before .before .before .before .before .unround-in3 .ensures .0) _ (omega arith)
 
 add-h : tie.Need-add-h Inv-loop μ-loop
 add-h c = omega arith
@@ -55,32 +43,22 @@ loop-less c = omega arith
 
 loop-again : tie.Need-loop-again Inv-loop μ-loop
 loop-again c =
-    let l = c .before .before .before .before .before .before .before .before .before .before .before .before .before .before .before .before .before .before .before .before .before .before .before .before .before .before .before .before .before .loop in
-    let q : 4 ≤ l .r = omega (arith, c .before .before .before .before .before .before .before .before .before .before .before .before .before .before .before .before .before .before .before .before .before .before .before .before .before .before .before .before .loop-test .taken, l .inv .1) in
-    let f1 = c .before .before .before .before .before .before .before .before .before .before .before .before .before .before .before .before .before .before .before .before .before .before .before .before .before .unround-in .ensures .1 _ _ (backward-as _ _ refl (l .r) (l .r - 4 + 3 + 1) (omega arith) (l .inv .2)) in
-    let f2 = c .before .before .before .before .before .before .before .before .before .before .before .before .before .before .before .before .before .before .unround-in2 .ensures .1 _ _ (backward-as _ _ refl (l .r - 4 + 3) (l .r - 4 + 2 + 1) (omega arith) f1) in
-    let f3 = c .before .before .before .before .before .before .before .before .before .before .before .unround-in3 .ensures .1 _ _ (backward-as _ _ refl (l .r - 4 + 2) (l .r - 4 + 1 + 1) (omega arith) f2) in
-    let f4 = c .before .before .before .before .unround-in4 .ensures .1 _ _ f3 in
-    (omega (arith, c .before .before .before .before .before .before .before .before .before .before .before .before .before .before .before .before .before .before .before .before .before .before .before .before .before .before .before .before .loop-test .taken), omega (arith, l .inv .1), f4)
-
-unround-in-requires-5 : tie.Need-unround-in-requires-5 Inv-loop μ-loop
-unround-in-requires-5 c κs = ready _ _ (c .before .before .before .before .row-32 .ensures) (sound 1) (c .before .before .before .loop .inv .2 .room) _ (omega arith)
-
-unround-in-requires-6 : tie.Need-unround-in-requires-6 Inv-loop μ-loop
-unround-in-requires-6 c κs = ready _ _ (c .before .before .before .before .before .before .before .before .before .before .before .row-32 .ensures) (sound 1) (c .before .before .before .before .before .before .unround-in5 .ensures .0) _ (omega arith)
+    let l = c .before .before .before .before .before .before .before .before .before .before .before .before .before .before .before .loop in
+    let f1 = c .before .before .before .before .before .before .before .before .before .before .before .unround-in .ensures .1 _ _ (backward-as _ _ refl (l .r) (l .r - 2 + 1 + 1) (omega arith) (l .inv .2)) in
+    let f2 = c .before .before .before .before .unround-in2 .ensures .1 _ _ f1 in
+    (omega arith, omega arith, f2)
 
 same-length : tie.Need-same-length Inv-loop μ-loop
-same-length c = search needs
+same-length c = c .before .loop .inv .2 .kept .long1
 
 same-length-2 : tie.Need-same-length-2 Inv-loop μ-loop
-same-length-2 c = search needs
+same-length-2 c = c .before .loop .inv .2 .kept .long2
 
 returns : tie.Need-returns Inv-loop μ-loop
 returns c =
-    let l = c .before .before .before .before .before .before .before .before .before .before .before .before .before .before .before .loop in
-    let f5 = c .before .before .before .before .before .before .before .before .before .before .before .unround-in5 .ensures .1 _ _ (backward-as _ _ refl (l .r) 2 (omega arith) (l .inv .2)) in
-    let f6 = c .before .before .before .before .unround-in6 .ensures .1 _ _ f5 in
-    backward-as _ _ (c .before .before .before .before .before .before .before .before .before .before .before .before .before .before .before .before .row-32 .ensures) 0 0 refl f6
+    let l = c .before .loop in
+    let e = c .before .before .row-32 .ensures in
+    backward-as _ _ e (l .r) 0 (omega arith) (l .inv .2)
 
 pub unrun-32-spec : {M : Type 1} → statement M
 unrun-32-spec =
@@ -93,16 +71,10 @@ unrun-32-spec =
     sub-r
     add-unround-in
     unround-in-requires
-    add-unround-in-2
     unround-in-requires-2
-    add-unround-in-3
-    unround-in-requires-3
-    unround-in-requires-4
     add-h
     loop-less
     loop-again
-    unround-in-requires-5
-    unround-in-requires-6
     same-length
     same-length-2
     returns)
