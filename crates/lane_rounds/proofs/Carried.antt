@@ -25,22 +25,21 @@ use Rattle.transpose.specs.Matrix.{column, transposed}
 use Rattle.transpose.proofs.Laws.{transposed-only}
 use Rattle.lane_rounds.specs.Words.{widthRow, laneBlock, laneInput, carried, uncarried}
 use Rattle.lane_rounds.specs.Buffers.{spread, KeptBelow, KeptFrom, Placed, Forward, Backward}
+use Rattle.lane_rounds.proofs.Histories.{placed-at, forward-as, backward-as}
 use Rattle.lane_rounds.proofs.Columns.{lane-bits, block-bit, block-lt, history-carries}
 
 -- a number that is neither 32 nor 48 stands for 64
 module _ (n : ℕ) (p : n ≡ 32 → ⊥) (q : n ≡ 48 → ⊥) (keys words : List ℕ) where
-  other-width : row64 ≡ widthRow n
-  other-width = rw (ne-eqb n 32 p, ne-eqb n 48 q)
+  other-width : (f : Row → ℕ → ℕ) → transposed (tabulate (f row64) 0 64) ≡ transposed (tabulate (f (widthRow n)) 0 64)
+  other-width f = rw (ne-eqb n 32 p, ne-eqb n 48 q)
 
   pub other-carried : carried 64 keys words ≡ carried n keys words
   unfolding carried
-  other-carried =
-      ap (λ (v : Row). transposed (tabulate (λ j. block v (run v (laneInput keys j) 0 rounds (registers v (laneBlock v words j)))) 0 64)) other-width
+  other-carried = other-width (λ v j. block v (run v (laneInput keys j) 0 rounds (registers v (laneBlock v words j))))
 
   pub other-uncarried : uncarried 64 keys words ≡ uncarried n keys words
   unfolding uncarried
-  other-uncarried =
-      ap (λ (v : Row). transposed (tabulate (λ j. block v (unrun v (laneInput keys j) 0 rounds (registers v (laneBlock v words j)))) 0 64)) other-width
+  other-uncarried = other-width (λ v j. block v (unrun v (laneInput keys j) 0 rounds (registers v (laneBlock v words j))))
 
 -- ---- the registers that a run starts from are still placed after it
 
@@ -82,34 +81,37 @@ module _ (v : Row) (s : Sound v) (f : ℕ → ℕ) (r : List ℕ) (len : length 
 module _ (n : ℕ) (v w : Row) (e : v ≡ w) (s : Sound w) (width : widthRow n ≡ w) (irs keys words r a₀ b₀ a b : List ℕ)
     (i : Entries (λ k. spread (irOf (counter k))) rounds irs) (len : length r ≡ 64) (small : (k : ℕ) → getD r k 0 < 2 ^ 64)
     (clear : (k : ℕ) → v .n ≤ k → getD r k 0 ≡ 0) where
-  at-row : v ≡ widthRow n
-  at-row = e ∙ sym width
-
   v-sound : Sound v
   v-sound = subst Sound (sym e) s
+
+  -- what the rounds make of a lane, if that is its block in r, in the words of the spec
+  as-words : (f : Row → ℕ → ℕ) → ((j : ℕ) → j < 64 → laneBlock v r j ≡ f v j) → r ≡ transposed (tabulate (f (widthRow n)) 0 64)
+  as-words f same =
+      subst (λ (x : Row). r ≡ transposed (tabulate (f x) 0 64)) (e ∙ sym width) (lanes-known v v-sound (f v) r len small clear same)
 
   -- THEOREM: forward
   pub carries : Placed v (v .clocks * 0) words a₀ b₀ → Forward w irs keys rounds a₀ b₀ a b → Placed v (v .clocks * rounds) r a b → r ≡ carried n keys words
   unfolding carried
   carries p h q =
-      subst (λ (x : Row). r ≡ transposed (tabulate (λ j. block x (run x (laneInput keys j) 0 rounds (registers x (laneBlock x words j)))) 0 64)) at-row
-      (lanes-known v v-sound (λ j. block v (run v (laneInput keys j) 0 rounds (registers v (laneBlock v words j)))) r len small clear
+      let g = forward-as w v (sym e) rounds rounds refl h in
+      let p0 = placed-at v (v .clocks * 0) 0 words a₀ b₀ (mul-zero (v .clocks)) p in
+      as-words (λ x j. block x (run x (laneInput keys j) 0 rounds (registers x (laneBlock x words j))))
       (λ j l.
       sym (div-add-mod' (laneBlock v r j) (2 ^ (v .len2)))
-      ∙ ap (block v) (history-carries v v-sound irs keys a b words r i rounds refl (subst (λ (x : Row). Forward x irs keys rounds a₀ b₀ a b) (sym e) h .made)
-      (placed-below v v-sound words a₀ b₀ a b (subst (λ (t : ℕ). Placed v t words a₀ b₀) (mul-zero (v .clocks)) p) (subst (λ (x : Row). Forward x irs keys rounds a₀ b₀ a b) (sym e) h .kept)) q j l)))
+      ∙ ap (block v) (history-carries v v-sound irs keys a b words r i rounds refl (g .made) (placed-below v v-sound words a₀ b₀ a b p0 (g .kept)) q j l))
 
   -- THEOREM: backward
   pub uncarries : Placed v (v .clocks * rounds) words a₀ b₀ → Backward w irs keys 0 a₀ b₀ a b → Placed v (v .clocks * 0) r a b → r ≡ uncarried n keys words
   unfolding uncarried
   uncarries p h q =
-      subst (λ (x : Row). r ≡ transposed (tabulate (λ j. block x (unrun x (laneInput keys j) 0 rounds (registers x (laneBlock x words j)))) 0 64)) at-row
-      (lanes-known v v-sound (λ j. block v (unrun v (laneInput keys j) 0 rounds (registers v (laneBlock v words j)))) r len small clear
+      let g = backward-as w v (sym e) 0 0 refl h in
+      let q0 = placed-at v (v .clocks * 0) 0 r a b (mul-zero (v .clocks)) q in
+      as-words (λ x j. block x (unrun x (laneInput keys j) 0 rounds (registers x (laneBlock x words j))))
       (λ j l.
-      sym (div-add-mod' (laneBlock v r j) (2 ^ (v .len2)))
+      let u = laneInput keys j in
+      let x = laneBlock v r j in
+      sym (div-add-mod' x (2 ^ (v .len2)))
       ∙ ap (block v)
-      (sym (unrun-run v v-sound (laneInput keys j) (lane-bits keys j) 0 rounds (registers v (laneBlock v r j)) (registers-fit v v-sound (laneBlock v r j) (block-lt v r j)))
-      ∙ ap (unrun v (laneInput keys j) 0 rounds)
-      (sym (history-carries v v-sound irs keys a b r words i rounds refl (subst (λ (x : Row). Backward x irs keys 0 a₀ b₀ a b) (sym e) h .made)
-      (subst (λ (t : ℕ). Placed v t r a b) (mul-zero (v .clocks)) q)
-      (placed-from v v-sound words a₀ b₀ a b (v .clocks * rounds) p (subst (λ (x : Row). Backward x irs keys 0 a₀ b₀ a b) (sym e) h .kept)) j l)))))
+      (sym (unrun-run v v-sound u (lane-bits keys j) 0 rounds (registers v x) (registers-fit v v-sound x (block-lt v r j)))
+      ∙ ap (unrun v u 0 rounds)
+      (sym (history-carries v v-sound irs keys a b r words i rounds refl (g .made) q0 (placed-from v v-sound words a₀ b₀ a b (v .clocks * rounds) p (g .kept)) j l))))

@@ -19,10 +19,6 @@ use Rattle.lane_rounds.proofs.Xors.{undone}
 abbrev pub Clocks : Row → RoundInput → (first n : ℕ) → List ℕ → List ℕ → Type 0
 Clocks v u first n a b = (c : ℕ) → c < n → Clocked v u (first + c) a b
 
--- a tap below the register's highest bit lies in the buffer
-pub tap-in : (i top p n : ℕ) → i < top → top ≤ p → p < n → (i ≤ p) × (p < n)
-tap-in i top p n h k l = (omega arith, l)
-
 module _ (v : Row) (s : Sound v) where
   -- ---- the formulas see only their register's bits, and the rests only the lower ones
 

@@ -28,9 +28,11 @@ laneInput keys j r = record { ir = irOf (counter r); ka = bit (getD keys (2 * r)
 -- the words whose lanes hold what all rounds make of each lane's block
 unfoldable pub carried : (n : ℕ) (keys words : List ℕ) → List ℕ
 carried n keys words =
-    transposed (tabulate (λ j. block (widthRow n) (run (widthRow n) (laneInput keys j) 0 rounds (registers (widthRow n) (laneBlock (widthRow n) words j)))) 0 laneCount)
+    let v = widthRow n in
+    transposed (tabulate (λ j. block v (run v (laneInput keys j) 0 rounds (registers v (laneBlock v words j)))) 0 laneCount)
 
 -- and the same with all rounds undone
 unfoldable pub uncarried : (n : ℕ) (keys words : List ℕ) → List ℕ
 uncarried n keys words =
-    transposed (tabulate (λ j. block (widthRow n) (unrun (widthRow n) (laneInput keys j) 0 rounds (registers (widthRow n) (laneBlock (widthRow n) words j)))) 0 laneCount)
+    let v = widthRow n in
+    transposed (tabulate (λ j. block v (unrun v (laneInput keys j) 0 rounds (registers v (laneBlock v words j)))) 0 laneCount)

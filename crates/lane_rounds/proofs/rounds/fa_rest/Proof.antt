@@ -3,29 +3,29 @@
 use mathlib.Core.Path.{ap, ap₂}
 use Prim.Native.Nat.{ℕ}
 use Rattle.katan.specs.Bit.{xor, and}
-use Rattle.lane_rounds.proofs.Clocks.{tap-in}
+use native.Mathlib.Omega.{arith}
 use Rattle.lane_rounds.proofs.rounds.fa_rest.Statement.{statement}
 use Rattle.lane_rounds.proofs.rounds.fa_rest.Tie as tie
 
 tap-requires : tie.Need-tap-requires
 tap-requires c κs =
     let d = c .before in
-    tap-in _ _ _ _ (d .pre .0 .x2-in) (d .pre .1) (d .pre .2)
+    (omega (arith, d .pre .0, d .pre .1), d .pre .2)
 
 tap-requires-2 : tie.Need-tap-requires-2
 tap-requires-2 c κs =
     let d = c .before .before in
-    tap-in _ _ _ _ (d .pre .0 .x3-in) (d .pre .1) (d .pre .2)
+    (omega (arith, d .pre .0, d .pre .1), d .pre .2)
 
 tap-requires-3 : tie.Need-tap-requires-3
 tap-requires-3 c κs =
     let d = c .before .before .before in
-    tap-in _ _ _ _ (d .pre .0 .x4-in) (d .pre .1) (d .pre .2)
+    (omega (arith, d .pre .0, d .pre .1), d .pre .2)
 
 tap-requires-4 : tie.Need-tap-requires-4
 tap-requires-4 c κs =
     let d = c .before .before .before .before in
-    tap-in _ _ _ _ (d .pre .0 .x5-in) (d .pre .1) (d .pre .2)
+    (omega (arith, d .pre .0, d .pre .1), d .pre .2)
 
 returns : tie.Need-returns
 returns c =
