@@ -15,6 +15,10 @@ use Rattle.katan.specs.declared.RoundInput.{RoundInput}
 use Rattle.lane_rounds.specs.Buffers.{tapped, Clocked}
 use Rattle.lane_rounds.proofs.Xors.{undone}
 
+-- an xor of equal words at an equal place
+pub xor-at : (l : List ℕ) {i j x y z w : ℕ} → i ≡ j → x ≡ y → z ≡ w → set l i (xor x z) ≡ set l j (xor y w)
+xor-at l p q r = ap₂ (set l) p (ap₂ xor q r)
+
 -- n clocks from clock first on are made with one input
 abbrev pub Clocks : Row → RoundInput → (first n : ℕ) → List ℕ → List ℕ → Type 0
 Clocks v u first n a b = (c : ℕ) → c < n → Clocked v u (first + c) a b

@@ -17,7 +17,7 @@ use Rattle.katan.specs.declared.RoundInput.{RoundInput}
 use Rattle.lane_rounds.specs.Buffers.{tapped, Room, wordInput, Clocked, History, KeptBelow, KeptFrom, Placed, Forward, Backward}
 use Rattle.lane_rounds.proofs.Clocks.{Clocks, still, made, unmade}
 
-pub room-set : {v : Row} {a b : List ℕ} → Room v a b → (i x k y : ℕ) → Room v (set a i x) (set b k y)
+room-set : {v : Row} {a b : List ℕ} → Room v a b → (i x k y : ℕ) → Room v (set a i x) (set b k y)
 room-set {v} {a} {b} r i x k y =
     record { room1 = rw (length-set a i x) (r .room1); room2 = rw (length-set b k y) (r .room2) }
 

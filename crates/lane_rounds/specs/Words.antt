@@ -17,7 +17,7 @@ use Rattle.transpose.specs.Matrix.{column, transposed}
 abbrev pub widthRow : ℕ → Row
 widthRow n = pick (eqb n 32) row32 (pick (eqb n 48) row48 row64)
 
--- lane j's block: its bit i is bit j of word i
+-- lane j's block: its bit i is bit j of word i; the words from n on are not looked at
 abbrev pub laneBlock : Row → List ℕ → ℕ → ℕ
 laneBlock v words j = column words j % 2 ^ (v .n)
 
@@ -25,7 +25,7 @@ laneBlock v words j = column words j % 2 ^ (v .n)
 abbrev pub laneInput : List ℕ → ℕ → ℕ → RoundInput
 laneInput keys j r = record { ir = irOf (counter r); ka = bit (getD keys (2 * r) 0) j; kb = bit (getD keys (2 * r + 1) 0) j }
 
--- the words whose lanes hold what all rounds make of each lane's block
+-- the words whose lanes hold what all rounds make of each lane's block; the words from n on are 0, since that is below 2^n
 unfoldable pub carried : (n : ℕ) (keys words : List ℕ) → List ℕ
 carried n keys words =
     let v = widthRow n in

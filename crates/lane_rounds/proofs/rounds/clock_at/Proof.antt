@@ -1,11 +1,11 @@
 -- `lane_rounds::rounds::clock_at` meets its contract.
 -- Assumes nothing.
-use mathlib.Core.Path.{_≡_, sym, ap, ap₂}
+use mathlib.Core.Path.{_≡_, sym, ap}
 use Prim.Native.Nat.{ℕ, _+_}
 use native.Mathlib.Omega.{arith}
 use native.Mathlib.Nat.{add-sub-cancel}
-use lib.ListN.{getD, set, length-set}
-use Rattle.katan.specs.Bit.{xor}
+use lib.ListN.{getD, length-set}
+use Rattle.lane_rounds.proofs.Clocks.{xor-at}
 use Rattle.lane_rounds.proofs.rounds.clock_at.Statement.{statement}
 use Rattle.lane_rounds.proofs.rounds.clock_at.Tie as tie
 
@@ -94,8 +94,8 @@ returns c =
     let b = d .args .b .now in
     let p : t + v .x1 + 1 ≡ t + v .len1 = omega (arith, d .pre .0 .top1) in
     let q : t + v .y1 + 1 ≡ t + v .len2 = omega (arith, d .pre .0 .top2) in (
-      ap₂ (set a) p (ap₂ xor (ap (λ (n : ℕ). getD b n 0) (sym (add-sub-cancel t (v .y1)))) (c .fb-rest .ensures)),
-      ap₂ (set b) q (ap₂ xor (ap (λ (n : ℕ). getD a n 0) (sym (add-sub-cancel t (v .x1)))) (c .before .before .before .fa-rest .ensures)),
+      xor-at a p (ap (λ (n : ℕ). getD b n 0) (sym (add-sub-cancel t (v .y1)))) (c .fb-rest .ensures),
+      xor-at b q (ap (λ (n : ℕ). getD a n 0) (sym (add-sub-cancel t (v .x1)))) (c .before .before .before .fa-rest .ensures),
     )
 
 pub clock-at-spec : {M : Type 1} → statement M

@@ -1,10 +1,10 @@
 -- `lane_rounds::rounds::unclock_at` meets its contract.
 -- Assumes nothing.
-use mathlib.Core.Path.{_≡_, ap, ap₂}
+use mathlib.Core.Path.{_≡_, refl, ap}
 use Prim.Native.Nat.{ℕ, _+_}
 use native.Mathlib.Omega.{arith}
-use lib.ListN.{getD, set, length-set}
-use Rattle.katan.specs.Bit.{xor}
+use lib.ListN.{getD, length-set}
+use Rattle.lane_rounds.proofs.Clocks.{xor-at}
 use Rattle.lane_rounds.proofs.rounds.unclock_at.Statement.{statement}
 use Rattle.lane_rounds.proofs.rounds.unclock_at.Tie as tie
 
@@ -93,8 +93,8 @@ returns c =
     let b = d .args .b .now in
     let p : t + v .x1 + 1 ≡ t + v .len1 = omega (arith, d .pre .0 .top1) in
     let q : t + v .y1 + 1 ≡ t + v .len2 = omega (arith, d .pre .0 .top2) in (
-      ap (set a t) (ap₂ xor (ap (λ (n : ℕ). getD b n 0) q) (c .before .before .before .fa-rest .ensures)),
-      ap (set b t) (ap₂ xor (ap (λ (n : ℕ). getD a n 0) p) (c .fb-rest .ensures)),
+      xor-at a refl (ap (λ (n : ℕ). getD b n 0) q) (c .before .before .before .fa-rest .ensures),
+      xor-at b refl (ap (λ (n : ℕ). getD a n 0) p) (c .fb-rest .ensures),
     )
 
 pub unclock-at-spec : {M : Type 1} → statement M
