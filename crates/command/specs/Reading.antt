@@ -68,6 +68,7 @@ openingIn v line offset =
 abbrev pub taken : Fields → (Values → Command) → Line
 taken f make = pick (f .ok) (Taken (make (f .values))) Broken
 
+-- only a load's form has a block: the others are read with the digits of no variant, 0
 unfoldable pub benchIn : List ℕ → ℕ → Line
 benchIn line offset = taken (whole (blockDigits 0) line offset benchForm) (λ (x : Values). Bench (x .v5))
 

@@ -108,8 +108,7 @@ pub fn opening_at(line: &[u8], offset: usize, variant: u8) -> Opening
     }
 }
 
-// Of the forms only a load's has a block: no variant, 0, will do for the others.
-
+// Of the forms only a load's has a block: the others are read with no variant, 0.
 pub fn bench_at(line: &[u8], offset: usize) -> Line
     ensures { λ r. ⌜ r ≡ benchIn (now (line .entry)) offset ⌝ }
 {

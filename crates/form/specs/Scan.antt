@@ -1,5 +1,5 @@
--- What reading a form finds, byte by byte, from an offset of a line on. Nothing here says what a line is: Written does, and Reads says that
--- the two agree on every line.
+-- What reading a form finds, byte by byte, from an offset of a line on. Nothing here says what a line is: `fill` in text's Form does, and
+-- proofs/Scans says that a form is found exactly where the line is the form filled with the values found.
 -- Assumes nothing.
 use Prim.Native.Nat.{ℕ, zero, suc, _+_, _*_, _-_}
 use mathlib.Core.Bool.{true, false, _&&_}
