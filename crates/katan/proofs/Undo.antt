@@ -33,10 +33,10 @@ sound v = row-sound (v - 1)
 -- ---- the rests see only the lower bits
 
 module _ (v : Row) (t : Sound v) where
-  fa-rest-same : (f g : ℕ → ℕ) (ir ka : ℕ) → ((i : ℕ) → i < v .x1 → f i ≡ g i) → faRest xor and v f ir ka ≡ faRest xor and v g ir ka
+  pub fa-rest-same : (f g : ℕ → ℕ) (ir ka : ℕ) → ((i : ℕ) → i < v .x1 → f i ≡ g i) → faRest xor and v f ir ka ≡ faRest xor and v g ir ka
   fa-rest-same f g ir ka h = cc (h (v .x2) (t .x2-in), h (v .x3) (t .x3-in), h (v .x4) (t .x4-in), h (v .x5) (t .x5-in))
 
-  fb-rest-same : (f g : ℕ → ℕ) (kb : ℕ) → ((i : ℕ) → i < v .y1 → f i ≡ g i) → fbRest xor and v f kb ≡ fbRest xor and v g kb
+  pub fb-rest-same : (f g : ℕ → ℕ) (kb : ℕ) → ((i : ℕ) → i < v .y1 → f i ≡ g i) → fbRest xor and v f kb ≡ fbRest xor and v g kb
   fb-rest-same f g kb h = cc (h (v .y2) (t .y2-in), h (v .y3) (t .y3-in), h (v .y4) (t .y4-in), h (v .y5) (t .y5-in), h (v .y6) (t .y6-in))
 
 -- ---- a clock

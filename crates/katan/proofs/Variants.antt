@@ -3,12 +3,13 @@
 use mathlib.Core.Path.{_≡_, refl, sym, ap, _∙_}
 use mathlib.Core.Bool.{Bool, true, false}
 use mathlib.Core.List.{List, [], _∷_}
-use Prim.Native.Nat.{ℕ, zero, suc, _<_, _≤_}
+use Prim.Native.Nat.{ℕ, zero, suc, _-_, _<_, _≤_}
 use native.Mathlib.Omega.{arith}
-use borrow.Author.Tests.{ltb-false, leb-true, lt-ltb, le-leb}
+use borrow.Author.Tests.{ltb-false, ltb-true, leb-true, lt-ltb, le-leb}
 use lib.Dec.{leb, ltb}
+use lib.ListN.{List·getD-eq-default}
 use Rattle.katan.specs.Bit.{pick}
-use Rattle.katan.specs.Variant.{rowOf}
+use Rattle.katan.specs.Variant.{row32, rows, rowOf}
 use Rattle.katan.specs.Checks.{numberOf, Outcome, value, refused, Check, checked, variantCheck}
 use Rattle.katan.specs.Rows.{rowOutcome, rowAnswer}
 use Rattle.katan.specs.declared.Row.{Row}
@@ -40,6 +41,13 @@ no-variant (suc (suc (suc (suc (suc (suc (suc v))))))) a b c d e f =
 
 pub over-six-or-none : (v : ℕ) → (v ≡ 1 → ⊥) → (v ≡ 2 → ⊥) → (v ≡ 3 → ⊥) → (v ≡ 4 → ⊥) → (v ≡ 5 → ⊥) → (v ≡ 6 → ⊥) → refused 1 ≡ rowAnswer v
 over-six-or-none v a b c d e f = sym (fault-first (variantCheck v) [] (value (rowOf v)) (no-variant v a b c d e f))
+
+-- a number that check 1 refuses has the first row
+pub first-row : (v : ℕ) → variantCheck v .fault ≡ true → row32 ≡ rowOf v
+first-row zero e = refl
+first-row (suc v) e =
+    let h : 6 < suc v = ltb-true 6 (suc v) (rw (le-leb 1 (suc v) (omega arith)) at e) in
+    sym (List·getD-eq-default rows row32 {n = suc v - 1} (omega arith))
 
 -- what it means that check 1 finds no fault
 pub record IsVariant (v : ℕ) (r : Row) : Type 0 where

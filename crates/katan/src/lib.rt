@@ -4,7 +4,7 @@ ghost use Prim.Native.Nat.{_*_};
 ghost use Rattle.katan.specs.Bit.{tabulate};
 ghost use Rattle.katan.specs.Counter.{counter, rounds};
 ghost use Rattle.katan.specs.Key.{keyBitNumber};
-ghost use Rattle.katan.specs.Variant.{row32, row48, row64};
+ghost use Rattle.katan.specs.Variant.{row32, row48, row64, widthOf};
 ghost use Rattle.katan.specs.Checks.{numberOf, variantCheck};
 ghost use Rattle.katan.specs.Rows.{rowOutcome, rowAnswer};
 
@@ -193,6 +193,16 @@ pub fn row_of(variant: u8) -> RowAnswer
         5 => RowAnswer::Found(row_48()),
         6 => RowAnswer::Found(row_64()),
         _ => RowAnswer::Refused(Refusal::BadVariant),
+    }
+}
+
+// The width of a variant's blocks; KATAN32's where there is no such variant.
+pub fn width_of(variant: u8) -> usize
+    ensures { λ r. ⌜ r ≡ widthOf variant ⌝ }
+{
+    match row_of(variant) {
+        RowAnswer::Found(row) => row.n,
+        RowAnswer::Refused(_) => row_32().n,
     }
 }
 

@@ -12,6 +12,7 @@ use Rattle.katan.specs.Clock.{fa, fb, faRest, fbRest}
 use Rattle.katan.specs.Within.{Sound}
 use Rattle.katan.specs.declared.Row.{Row}
 use Rattle.katan.specs.declared.RoundInput.{RoundInput}
+use Rattle.katan.proofs.Undo.{fa-rest-same, fb-rest-same}
 use Rattle.lane_rounds.specs.Buffers.{tapped, Clocked}
 use Rattle.lane_rounds.proofs.Xors.{undone}
 
@@ -24,21 +25,15 @@ abbrev pub Clocks : Row → RoundInput → (first n : ℕ) → List ℕ → List
 Clocks v u first n a b = (c : ℕ) → c < n → Clocked v u (first + c) a b
 
 module _ (v : Row) (s : Sound v) where
-  -- ---- the formulas see only their register's bits, and the rests only the lower ones
-
-  fa-rest-same : (f g : ℕ → ℕ) (ir ka : ℕ) → ((i : ℕ) → i < v .x1 → f i ≡ g i) → faRest xor and v f ir ka ≡ faRest xor and v g ir ka
-  fa-rest-same f g ir ka h = cc (h (v .x2) (s .x2-in), h (v .x3) (s .x3-in), h (v .x4) (s .x4-in), h (v .x5) (s .x5-in))
-
-  fb-rest-same : (f g : ℕ → ℕ) (kb : ℕ) → ((i : ℕ) → i < v .y1 → f i ≡ g i) → fbRest xor and v f kb ≡ fbRest xor and v g kb
-  fb-rest-same f g kb h = cc (h (v .y2) (s .y2-in), h (v .y3) (s .y3-in), h (v .y4) (s .y4-in), h (v .y5) (s .y5-in), h (v .y6) (s .y6-in))
+  -- ---- the formulas see only their register's bits
 
   pub fa-same : (f g : ℕ → ℕ) (ir ka : ℕ) → ((i : ℕ) → i < v .len1 → f i ≡ g i) → fa xor and v f ir ka ≡ fa xor and v g ir ka
   fa-same f g ir ka h =
-      ap₂ xor (h (v .x1) (omega (arith, s .top1))) (fa-rest-same f g ir ka (λ i q. h i (omega (arith, s .top1))))
+      ap₂ xor (h (v .x1) (omega (arith, s .top1))) (fa-rest-same v s f g ir ka (λ i q. h i (omega (arith, s .top1))))
 
   pub fb-same : (f g : ℕ → ℕ) (kb : ℕ) → ((i : ℕ) → i < v .len2 → f i ≡ g i) → fb xor and v f kb ≡ fb xor and v g kb
   fb-same f g kb h =
-      ap₂ xor (h (v .y1) (omega (arith, s .top2))) (fb-rest-same f g kb (λ i q. h i (omega (arith, s .top2))))
+      ap₂ xor (h (v .y1) (omega (arith, s .top2))) (fb-rest-same v s f g kb (λ i q. h i (omega (arith, s .top2))))
 
   module _ (u : RoundInput) (t : ℕ) (a b : List ℕ) where
     -- what is stored elsewhere leaves a clock made
@@ -80,8 +75,8 @@ module _ (v : Row) (s : Sound v) where
           record {
             into1 = getD-set-other a t (t + v .len1) wa 0 (λ e. omega (arith, s .top1))
                 ∙ sym (undone (getD a (t + v .len1) 0) rb)
-                ∙ sym (ap₂ xor lb (fb-rest-same _ _ (u .kb) (λ i q. getD-set-other b t (t + v .y1 - i) wb 0 (λ e. omega arith))));
+                ∙ sym (ap₂ xor lb (fb-rest-same v s _ _ (u .kb) (λ i q. getD-set-other b t (t + v .y1 - i) wb 0 (λ e. omega arith))));
             into2 = getD-set-other b t (t + v .len2) wb 0 (λ e. omega (arith, s .top2))
                 ∙ sym (undone (getD b (t + v .len2) 0) ra)
-                ∙ sym (ap₂ xor la (fa-rest-same _ _ (u .ir) (u .ka) (λ i q. getD-set-other a t (t + v .x1 - i) wa 0 (λ e. omega arith))));
+                ∙ sym (ap₂ xor la (fa-rest-same v s _ _ (u .ir) (u .ka) (λ i q. getD-set-other a t (t + v .x1 - i) wa 0 (λ e. omega arith))));
           }

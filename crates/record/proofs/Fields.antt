@@ -3,15 +3,14 @@
 use mathlib.Core.Path.{_≡_, refl, sym, ap, _∙_}
 use mathlib.Core.Bool.{Bool, true, false, not, _||_}
 use mathlib.Core.List.{List}
-use Prim.Native.Nat.{ℕ, zero, suc, _-_, _^_, _<_}
+use Prim.Native.Nat.{ℕ, _^_}
 use native.Mathlib.Omega.{arith}
-use borrow.Author.Tests.{eq-eqb, ne-eqb, eqb-true, not-false, le-leb, lt-leb, ltb-true}
+use borrow.Author.Tests.{eq-eqb, ne-eqb, eqb-true, not-false, lt-leb}
 use lib.Dec.{leb}
-use lib.ListN.{List·getD-eq-default}
 use lib.Pow.{pow-pos}
-use Rattle.katan.specs.Variant.{row32, rows, rowOf, widthOf}
+use Rattle.katan.specs.Variant.{widthOf}
 use Rattle.katan.specs.Bit.{pick}
-use Rattle.katan.specs.Checks.{Outcome, refused, checked, variantCheck}
+use Rattle.katan.specs.Checks.{Outcome, refused, checked}
 use Rattle.katan.specs.Sizes.{laneCount}
 use Rattle.record.specs.Fields.{Kind, kindOf, other, lane, count, mask, key, block}
 use Rattle.record.specs.Checks.{nonzero, unknown, loadFields, unused, zeroBytes, wrongCount, noneNamed, checksOf}
@@ -45,10 +44,3 @@ after-4 k v s r known fourth e =
 pub other-kind : (b : ℕ) → (b ≡ 1 → ⊥) → (b ≡ 2 → ⊥) → (b ≡ 3 → ⊥) → (b ≡ 4 → ⊥) → kindOf b ≡ other
 unfolding kindOf
 other-kind b p q r t = rw (ne-eqb b 1 p, ne-eqb b 2 q, ne-eqb b 3 r, ne-eqb b 4 t)
-
--- a number that check 1 refuses has the first row
-pub no-variant : (v : ℕ) → variantCheck v .fault ≡ true → row32 ≡ rowOf v
-no-variant zero e = refl
-no-variant (suc v) e =
-    let h : 6 < suc v = ltb-true 6 (suc v) (rw (le-leb 1 (suc v) (omega arith)) at e) in
-    sym (List·getD-eq-default rows row32 {n = suc v - 1} (omega arith))

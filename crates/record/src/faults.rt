@@ -16,17 +16,6 @@ use crate::mask_of;
 use crate::word_in;
 use katan::LANES;
 use katan::Refusal;
-use katan::RowAnswer;
-
-// The width of a variant's blocks; KATAN32's where there is no such variant.
-fn width_of(variant: u8) -> usize
-    ensures { λ r. ⌜ r ≡ widthOf variant ⌝ }
-{
-    match katan::row_of(variant) {
-        RowAnswer::Found(row) => row.n,
-        RowAnswer::Refused(_) => katan::row_32().n,
-    }
-}
 
 // Whether a byte that is zero in every record is not.
 fn zero_bytes(sent: &[u8]) -> bool
@@ -67,7 +56,7 @@ pub fn load_fault(variant: u8, sent: &[u8]) -> FieldAnswer
     }
     let lane = lane_of(sent) as usize;
     let position = count_of(sent);
-    let wide = numbers::too_wide(width_of(variant), block_of(sent));
+    let wide = numbers::too_wide(katan::width_of(variant), block_of(sent));
     if LANES <= lane {
         return FieldAnswer::Refused(Refusal::BadLane);
     }

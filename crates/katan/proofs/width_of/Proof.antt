@@ -1,10 +1,9 @@
 use mathlib.Core.Path.{sym, ap, _∙_}
 use Rattle.katan.specs.declared.Row.{Row}
-use Rattle.katan.proofs.Variants.{row-found, row-refused}
-use Rattle.record.proofs.Fields.{no-variant}
+use Rattle.katan.proofs.Variants.{row-found, row-refused, first-row}
 use borrow.Author.Needs.{needs}
-use Rattle.record.proofs.faults.width_of.Statement.{statement}
-use Rattle.record.proofs.faults.width_of.Tie as tie
+use Rattle.katan.proofs.width_of.Statement.{statement}
+use Rattle.katan.proofs.width_of.Tie as tie
 
 row-of-requires : tie.Need-row-of-requires
 row-of-requires c κs = search needs
@@ -27,7 +26,7 @@ returns-2 : tie.Need-returns-2
 returns-2 c =
     let d = c .before .before .before in
     ap (λ (r : Row). r .n)
-    (c .row-32 .ensures ∙ no-variant (d .before .args .variant) (row-refused (d .before .args .variant) (d .row-of .result) _ (d .row-of .ensures) (c .before .enum-told .given .1) .0))
+    (c .row-32 .ensures ∙ first-row (d .before .args .variant) (row-refused (d .before .args .variant) (d .row-of .result) _ (d .row-of .ensures) (c .before .enum-told .given .1) .0))
 
 pub width-of-spec : {M : Type 1} → statement M
 width-of-spec =
