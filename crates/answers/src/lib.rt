@@ -62,7 +62,7 @@ pub fn opened_line(variant: u8) -> Printed
 pub fn refused_line(reason: Refusal) -> Printed
     ensures { λ r. ⌜ r ≡ printedAs (answerLine 0 0 (refused (numberOf reason))) ⌝ }
 {
-    let number = katan::refusal_number(reason);
+    let number = variants::refusal_number(reason);
     filled(b"(refused %)\n", [number as u64, 0, 0], 0)
 }
 

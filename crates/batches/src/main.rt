@@ -140,7 +140,7 @@ fn print_answer(a: lanes::Answer) {
         }
         lanes::Answer::Refused(r) => {
             io::write_all(STDOUT_FILENO, b"refused ");
-            io::print_decimal(STDOUT_FILENO, katan::refusal_number(r) as u64);
+            io::print_decimal(STDOUT_FILENO, variants::refusal_number(r) as u64);
         }
     }
 }

@@ -52,7 +52,7 @@ fn any_lane_fault(bench: Bench, n: usize) -> bool
 pub fn bad_lane(variant: u8, lane: Lane) -> bool
     ensures { λ r. ⌜ r ≡ benchCheck variant (laneView lane ∷ []) .fault ⌝ }
 {
-    match katan::row_of(variant) {
+    match variants::row_of(variant) {
         RowAnswer::Found(row) => lane_fault(row.n, lane),
         RowAnswer::Refused(_) => true,
     }
@@ -62,7 +62,7 @@ pub fn bad_lane(variant: u8, lane: Lane) -> bool
 pub fn bad_bench(bench: Bench) -> bool
     ensures { λ r. ⌜ r ≡ benchCheck (bench .variant) (map slotView (bench .slots)) .fault ⌝ }
 {
-    match katan::row_of(bench.variant) {
+    match variants::row_of(bench.variant) {
         RowAnswer::Found(row) => any_lane_fault(bench, row.n),
         RowAnswer::Refused(_) => true,
     }
@@ -108,7 +108,7 @@ pub fn decided(bench: Bench, link: Link, sent: &[u8]) -> Decision
     if sent.len() != LENGTH {
         return Decision::Refused(Refusal::BadLength);
     }
-    match record::field_fault(bench.variant, sent) {
+    match field_checks::field_fault(bench.variant, sent) {
         FieldAnswer::Sound => turn(link, sent),
         FieldAnswer::Refused(r) => Decision::Refused(r),
     }

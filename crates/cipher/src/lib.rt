@@ -15,7 +15,7 @@ fn worked(variant: u8, key: &[u8], q: u8, p: u8, x: u64) -> Answer
     requires { ⌜ (q ≤ rounds) × (p ≤ rounds) ⌝ }
     ensures { λ r. ⌜ outcome r ≡ blockAnswer variant (now (key .entry)) x (registersAt variant (numberIn (now (key .entry))) q x p) ⌝ }
 {
-    if katan::bad_variant(variant) {
+    if variants::bad_variant(variant) {
         return Answer::Refused(Refusal::BadVariant);
     }
     if key.len() != katan::KEY_BYTES {

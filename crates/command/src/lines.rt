@@ -93,7 +93,7 @@ pub fn opening_at(line: &[u8], offset: usize, variant: u8) -> Opening
             offset,
         };
     }
-    match katan::row_of(variant) {
+    match variants::row_of(variant) {
         RowAnswer::Refused(_) => nothing_opened(),
         RowAnswer::Found(_) => {
             if letter == b'r' {

@@ -43,7 +43,7 @@ fn put_block(answer: registers::Answer, out: &mut [u64]) -> u8
             out[0] = x;
             ACCEPTED
         }
-        registers::Answer::Refused(r) => katan::refusal_number(r),
+        registers::Answer::Refused(r) => variants::refusal_number(r),
     }
 }
 
@@ -57,7 +57,7 @@ fn put_rate(answer: RateAnswer, out: &mut [u64]) -> u8
             out[0] = x;
             ACCEPTED
         }
-        RateAnswer::Refused(r) => katan::refusal_number(r),
+        RateAnswer::Refused(r) => variants::refusal_number(r),
     }
 }
 
@@ -66,7 +66,7 @@ fn many_status(answer: lanes::Answer) -> u8
 {
     match answer {
         lanes::Answer::Done => ACCEPTED,
-        lanes::Answer::Refused(r) => katan::refusal_number(r),
+        lanes::Answer::Refused(r) => variants::refusal_number(r),
     }
 }
 
@@ -76,7 +76,7 @@ pub extern "C" fn katan_encrypt(variant: u8, key: &[u8], block: u64, out: &mut [
     ensures { λ r. ⌜ r ≡ statusOf (encryptCall variant (now (key .entry)) block (now (out .entry))) ⌝ }
     ensures { λ r. ⌜ now (out .exit) ≡ written word (encryptCall variant (now (key .entry)) block (now (out .entry))) (now (out .entry)) ⌝ }
 {
-    if katan::bad_variant(variant) {
+    if variants::bad_variant(variant) {
         return BAD_VARIANT;
     }
     if out.len() != 1 {
@@ -91,7 +91,7 @@ pub extern "C" fn katan_decrypt(variant: u8, key: &[u8], block: u64, out: &mut [
     ensures { λ r. ⌜ r ≡ statusOf (decryptCall variant (now (key .entry)) block (now (out .entry))) ⌝ }
     ensures { λ r. ⌜ now (out .exit) ≡ written word (decryptCall variant (now (key .entry)) block (now (out .entry))) (now (out .entry)) ⌝ }
 {
-    if katan::bad_variant(variant) {
+    if variants::bad_variant(variant) {
         return BAD_VARIANT;
     }
     if out.len() != 1 {
@@ -142,7 +142,7 @@ pub extern "C" fn katan_bit_rate(variant: u8, hertz: u64, out: &mut [u64]) -> u8
     ensures { λ r. ⌜ r ≡ statusOf (rateCall variant hertz (now (out .entry))) ⌝ }
     ensures { λ r. ⌜ now (out .exit) ≡ written word (rateCall variant hertz (now (out .entry))) (now (out .entry)) ⌝ }
 {
-    if katan::bad_variant(variant) {
+    if variants::bad_variant(variant) {
         return BAD_VARIANT;
     }
     if out.len() != 1 {
@@ -183,7 +183,7 @@ fn put_arrival(after: Arrival, bench: &mut [u8], link: &mut [u8], answer: &mut [
             put_response(1, number, total, answer);
             ACCEPTED
         }
-        Reply::Refused(r) => katan::refusal_number(r),
+        Reply::Refused(r) => variants::refusal_number(r),
     }
 }
 
@@ -198,7 +198,7 @@ fn put_reading(reading: ReadAnswer, answer: &mut [u64]) -> u8
             answer[1] = registers;
             ACCEPTED
         }
-        ReadAnswer::Refused(r) => katan::refusal_number(r),
+        ReadAnswer::Refused(r) => variants::refusal_number(r),
     }
 }
 
@@ -209,7 +209,7 @@ pub extern "C" fn katan_open(variant: u8, bench: &mut [u8], link: &mut [u8]) -> 
         × (now (bench .exit) ≡ openedBench variant (now (bench .entry)) (now (link .entry)))
         × (now (link .exit) ≡ openedLink variant (now (bench .entry)) (now (link .entry))) ⌝ }
 {
-    if katan::bad_variant(variant) {
+    if variants::bad_variant(variant) {
         return BAD_VARIANT;
     }
     if bench.len() != BENCH_LENGTH {
@@ -285,7 +285,7 @@ fn put_replayed(after: Replayed, bench: &mut [u8]) -> u8
             put_bench(next, bench);
             ACCEPTED
         }
-        ReplayAnswer::Refused(r) => katan::refusal_number(r),
+        ReplayAnswer::Refused(r) => variants::refusal_number(r),
     }
 }
 
@@ -301,7 +301,7 @@ pub extern "C" fn katan_replay(
         × (now (bench .exit) ≡ replayedBench variant (now (calls .entry)) (now (bench .entry)) (now (answers .entry)))
         × (now (answers .exit) ≡ replayedAnswers variant (now (calls .entry)) (now (bench .entry)) (now (answers .entry))) ⌝ }
 {
-    if katan::bad_variant(variant) {
+    if variants::bad_variant(variant) {
         return BAD_VARIANT;
     }
     if bench.len() != BENCH_LENGTH {

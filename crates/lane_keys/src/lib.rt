@@ -51,7 +51,7 @@ fn place(x: u8) -> usize
 fn ktantan_words(key: [u64; 80]) -> [u64; 508]
     ensures { λ r. ⌜ Entries (λ i. getD key (keyBitNumber i) 0) (2 * rounds) r ⌝ }
 {
-    let numbers = katan::key_bit_numbers();
+    let numbers = variants::key_bit_numbers();
     let mut words = [0u64; 508];
     for i in 0..508 {
         words[i] = key[place(numbers[i])];

@@ -63,7 +63,7 @@ fn place(v: Row, words: &[u64; 64], a: &mut [u64], b: &mut [u64], at: RoundPosit
     ensures { λ r. ⌜ Room v (now (a .exit)) (now (b .exit)) ⌝ }
     ensures { λ r. ⌜ Placed v (v .clocks * at .0) (now (words .entry)) (now (a .exit)) (now (b .exit)) ⌝ }
 {
-    let t = katan::first_clock(v, at).0;
+    let t = variants::first_clock(v, at).0;
     load(words, v.len2, v.len1, a, t + v.x1);
     load(words, 0, v.len2, b, t + v.y1);
 }
@@ -74,7 +74,7 @@ fn taken(v: Row, a: &[u64], b: &[u64], at: RoundPosition) -> [u64; 64]
     ensures { λ r. ⌜ Placed v (v .clocks * at .0) r (now (a .entry)) (now (b .entry)) ⌝ }
     ensures { λ r. ⌜ ((i : ℕ) → v .n ≤ i → getD r i 0 ≡ 0) ⌝ }
 {
-    let t = katan::first_clock(v, at).0;
+    let t = variants::first_clock(v, at).0;
     let words = unloaded([0u64; 64], 0, v.len2, b, t + v.y1);
     unloaded(words, v.len2, v.len1, a, t + v.x1)
 }
@@ -84,7 +84,7 @@ fn encrypted_32(irs: &[u64; 254], keys: &[u64; 508], words: &[u64; 64]) -> [u64;
     requires { ⌜ Entries (λ i. spread (irOf (counter i))) rounds (now irs) ⌝ }
     ensures { λ r. ⌜ r ≡ carried 32 (now (keys .entry)) (now (words .entry)) ⌝ }
 {
-    let v = katan::row_32();
+    let v = variants::row_32();
     let mut a = [0u64; FIRST_32];
     let mut b = [0u64; SECOND_32];
     place(v, words, &mut a, &mut b, RoundPosition(0));
@@ -96,7 +96,7 @@ fn encrypted_48(irs: &[u64; 254], keys: &[u64; 508], words: &[u64; 64]) -> [u64;
     requires { ⌜ Entries (λ i. spread (irOf (counter i))) rounds (now irs) ⌝ }
     ensures { λ r. ⌜ r ≡ carried 48 (now (keys .entry)) (now (words .entry)) ⌝ }
 {
-    let v = katan::row_48();
+    let v = variants::row_48();
     let mut a = [0u64; FIRST_48];
     let mut b = [0u64; SECOND_48];
     place(v, words, &mut a, &mut b, RoundPosition(0));
@@ -108,7 +108,7 @@ fn encrypted_64(irs: &[u64; 254], keys: &[u64; 508], words: &[u64; 64]) -> [u64;
     requires { ⌜ Entries (λ i. spread (irOf (counter i))) rounds (now irs) ⌝ }
     ensures { λ r. ⌜ r ≡ carried 64 (now (keys .entry)) (now (words .entry)) ⌝ }
 {
-    let v = katan::row_64();
+    let v = variants::row_64();
     let mut a = [0u64; FIRST_64];
     let mut b = [0u64; SECOND_64];
     place(v, words, &mut a, &mut b, RoundPosition(0));
@@ -120,7 +120,7 @@ fn decrypted_32(irs: &[u64; 254], keys: &[u64; 508], words: &[u64; 64]) -> [u64;
     requires { ⌜ Entries (λ i. spread (irOf (counter i))) rounds (now irs) ⌝ }
     ensures { λ r. ⌜ r ≡ uncarried 32 (now (keys .entry)) (now (words .entry)) ⌝ }
 {
-    let v = katan::row_32();
+    let v = variants::row_32();
     let mut a = [0u64; FIRST_32];
     let mut b = [0u64; SECOND_32];
     place(v, words, &mut a, &mut b, RoundPosition(ROUNDS));
@@ -132,7 +132,7 @@ fn decrypted_48(irs: &[u64; 254], keys: &[u64; 508], words: &[u64; 64]) -> [u64;
     requires { ⌜ Entries (λ i. spread (irOf (counter i))) rounds (now irs) ⌝ }
     ensures { λ r. ⌜ r ≡ uncarried 48 (now (keys .entry)) (now (words .entry)) ⌝ }
 {
-    let v = katan::row_48();
+    let v = variants::row_48();
     let mut a = [0u64; FIRST_48];
     let mut b = [0u64; SECOND_48];
     place(v, words, &mut a, &mut b, RoundPosition(ROUNDS));
@@ -144,7 +144,7 @@ fn decrypted_64(irs: &[u64; 254], keys: &[u64; 508], words: &[u64; 64]) -> [u64;
     requires { ⌜ Entries (λ i. spread (irOf (counter i))) rounds (now irs) ⌝ }
     ensures { λ r. ⌜ r ≡ uncarried 64 (now (keys .entry)) (now (words .entry)) ⌝ }
 {
-    let v = katan::row_64();
+    let v = variants::row_64();
     let mut a = [0u64; FIRST_64];
     let mut b = [0u64; SECOND_64];
     place(v, words, &mut a, &mut b, RoundPosition(ROUNDS));

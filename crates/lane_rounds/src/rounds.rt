@@ -98,7 +98,7 @@ fn round_in(
     ensures { λ q. ⌜ Room v (now (a .exit)) (now (b .exit)) ⌝ }
     ensures { λ q. ⌜ ((a₀ b₀ : List ℕ) → Forward v (now (irs .entry)) (now (keys .entry)) r a₀ b₀ (now (a .entry)) (now (b .entry)) → Forward v (now (irs .entry)) (now (keys .entry)) (r + 1) a₀ b₀ (now (a .exit)) (now (b .exit))) ⌝ }
 {
-    let first = katan::first_clock(v, RoundPosition(r)).0;
+    let first = variants::first_clock(v, RoundPosition(r)).0;
     let u = input_at(irs, keys, r as usize);
     for i in 0..n {
         clock_at(v, a, b, first + i, u);
@@ -119,7 +119,7 @@ fn unround_in(
     ensures { λ q. ⌜ Room v (now (a .exit)) (now (b .exit)) ⌝ }
     ensures { λ q. ⌜ ((a₀ b₀ : List ℕ) → Backward v (now (irs .entry)) (now (keys .entry)) (r + 1) a₀ b₀ (now (a .entry)) (now (b .entry)) → Backward v (now (irs .entry)) (now (keys .entry)) r a₀ b₀ (now (a .exit)) (now (b .exit))) ⌝ }
 {
-    let first = katan::first_clock(v, RoundPosition(r)).0;
+    let first = variants::first_clock(v, RoundPosition(r)).0;
     let u = input_at(irs, keys, r as usize);
     for i in 0..n {
         unclock_at(v, a, b, first + n - i - 1, u);
@@ -132,7 +132,7 @@ pub fn run_32(a: &mut [u64], b: &mut [u64], irs: &[u64; 254], keys: &[u64; 508])
     requires { ⌜ Room row32 (now a) (now b) ⌝ }
     ensures { λ r. ⌜ Forward row32 (now (irs .entry)) (now (keys .entry)) rounds (now (a .entry)) (now (b .entry)) (now (a .exit)) (now (b .exit)) ⌝ }
 {
-    let v = katan::row_32();
+    let v = variants::row_32();
     for h in 0..127u8 {
         let r = 2 * h;
         round_in(v, 1, a, b, irs, keys, r);
@@ -144,7 +144,7 @@ pub fn run_48(a: &mut [u64], b: &mut [u64], irs: &[u64; 254], keys: &[u64; 508])
     requires { ⌜ Room row48 (now a) (now b) ⌝ }
     ensures { λ r. ⌜ Forward row48 (now (irs .entry)) (now (keys .entry)) rounds (now (a .entry)) (now (b .entry)) (now (a .exit)) (now (b .exit)) ⌝ }
 {
-    let v = katan::row_48();
+    let v = variants::row_48();
     for r in 0..254u8 {
         round_in(v, 2, a, b, irs, keys, r);
     }
@@ -154,7 +154,7 @@ pub fn run_64(a: &mut [u64], b: &mut [u64], irs: &[u64; 254], keys: &[u64; 508])
     requires { ⌜ Room row64 (now a) (now b) ⌝ }
     ensures { λ r. ⌜ Forward row64 (now (irs .entry)) (now (keys .entry)) rounds (now (a .entry)) (now (b .entry)) (now (a .exit)) (now (b .exit)) ⌝ }
 {
-    let v = katan::row_64();
+    let v = variants::row_64();
     for h in 0..127u8 {
         let r = 2 * h;
         round_in(v, 3, a, b, irs, keys, r);
@@ -166,7 +166,7 @@ pub fn unrun_32(a: &mut [u64], b: &mut [u64], irs: &[u64; 254], keys: &[u64; 508
     requires { ⌜ Room row32 (now a) (now b) ⌝ }
     ensures { λ r. ⌜ Backward row32 (now (irs .entry)) (now (keys .entry)) 0 (now (a .entry)) (now (b .entry)) (now (a .exit)) (now (b .exit)) ⌝ }
 {
-    let v = katan::row_32();
+    let v = variants::row_32();
     let mut r: u8 = 254;
     for h in 0..127u8 {
         r -= 2;
@@ -179,7 +179,7 @@ pub fn unrun_48(a: &mut [u64], b: &mut [u64], irs: &[u64; 254], keys: &[u64; 508
     requires { ⌜ Room row48 (now a) (now b) ⌝ }
     ensures { λ r. ⌜ Backward row48 (now (irs .entry)) (now (keys .entry)) 0 (now (a .entry)) (now (b .entry)) (now (a .exit)) (now (b .exit)) ⌝ }
 {
-    let v = katan::row_48();
+    let v = variants::row_48();
     let mut r: u8 = 254;
     for h in 0..254u8 {
         r -= 1;
@@ -191,7 +191,7 @@ pub fn unrun_64(a: &mut [u64], b: &mut [u64], irs: &[u64; 254], keys: &[u64; 508
     requires { ⌜ Room row64 (now a) (now b) ⌝ }
     ensures { λ r. ⌜ Backward row64 (now (irs .entry)) (now (keys .entry)) 0 (now (a .entry)) (now (b .entry)) (now (a .exit)) (now (b .exit)) ⌝ }
 {
-    let v = katan::row_64();
+    let v = variants::row_64();
     let mut r: u8 = 254;
     for h in 0..127u8 {
         r -= 2;

@@ -117,7 +117,7 @@ pub fn many(
     ensures { λ r. ⌜ outcome r ≡ manyAnswer variant (now (keys .entry)) (now (blocks .entry)) (now (out .entry)) ⌝ }
     ensures { λ r. ⌜ now (out .exit) ≡ manyOf direction variant (now (keys .entry)) (now (blocks .entry)) (now (out .entry)) ⌝ }
 {
-    match katan::row_of(variant) {
+    match variants::row_of(variant) {
         RowAnswer::Found(row) => {
             let n = blocks.len();
             if n == 0 {

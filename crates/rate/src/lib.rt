@@ -24,7 +24,7 @@ pub fn cycles(blocks: u32) -> u64
 pub fn bit_rate(variant: u8, hertz: u64) -> RateAnswer
     ensures { λ r. ⌜ rateOutcome r ≡ rateAnswer variant hertz ⌝ }
 {
-    match katan::row_of(variant) {
+    match variants::row_of(variant) {
         RowAnswer::Found(row) => {
             if hertz == 0 {
                 return RateAnswer::Refused(Refusal::BadRate);

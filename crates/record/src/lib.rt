@@ -1,22 +1,15 @@
-// A record: its fields, the checks 3 to 8 of them, and whether two records have the same bytes.
+// A record: its fields, and whether two records have the same bytes.
 ghost use mathlib.Core.Path.{_≡_};
 ghost use Prim.Native.Nat.{_≤_};
 ghost use lib.ListN.{getD};
 ghost use Rattle.katan.specs.Key.{keyNumber};
-ghost use Rattle.katan.specs.Checks.{value, checked};
 ghost use Rattle.record.specs.Fields.{part, recordIn, sameBytes, lane, count, number, mask, key, block};
-ghost use Rattle.record.specs.Checks.{fieldChecks};
-ghost use Rattle.record.specs.Answers.{fieldOutcome};
 use crate::bytes::byte_at;
 use crate::bytes::bytes_in;
-use crate::faults::clear_fault;
-use crate::faults::load_fault;
-use crate::faults::move_fault;
 use katan::Key;
 use katan::Refusal;
 
 pub mod bytes;
-mod faults;
 
 // How many bytes a record has.
 pub const LENGTH: usize = 40;
@@ -86,6 +79,13 @@ pub fn block_of(sent: &[u8]) -> u64
     word_in(sent, 26, 8)
 }
 
+// Bytes 34 to 39, zero in every record.
+pub fn rest_of(sent: &[u8]) -> u64
+    ensures { λ r. ⌜ r ≡ part (now (sent .entry)) 34 6 ⌝ }
+{
+    word_in(sent, 34, 6)
+}
+
 pub fn same_bytes(a: &[u8], b: &[u8]) -> bool
     ensures { λ r. ⌜ r ≡ sameBytes (now (a .entry)) (now (b .entry)) ⌝ }
 {
@@ -106,17 +106,4 @@ pub fn same_bytes(a: &[u8], b: &[u8]) -> bool
 pub enum FieldAnswer {
     Sound,
     Refused(Refusal),
-}
-
-// Checks 3 to 8 of a record on a bench of a variant: the kind chooses those of its fields.
-pub fn field_fault(variant: u8, sent: &[u8]) -> FieldAnswer
-    ensures { λ r. ⌜ fieldOutcome r ≡ checked (fieldChecks variant (now (sent .entry))) (value tt) ⌝ }
-{
-    match kind_byte(sent) {
-        1 => load_fault(variant, sent),
-        2 => move_fault(sent),
-        3 => move_fault(sent),
-        4 => clear_fault(sent),
-        _ => FieldAnswer::Refused(Refusal::BadKind),
-    }
 }

@@ -27,7 +27,7 @@ fn moved(variant: u8, row: Row, key: Key, q: u8, p: u8, x: u64) -> u64
     requires { ⌜ (1 ≤ variant) × (variant ≤ 6) × (row ≡ rowOf variant) × (q ≤ rounds) × (p ≤ rounds) × (x < 2 ^ widthOf variant) ⌝ }
     ensures { λ r. ⌜ r ≡ registersAt variant (keyNumber key) q x p ⌝ }
 {
-    let counters = katan::counters();
+    let counters = variants::counters();
     let keys = round_keys::round_keys(variant, key);
     between(variant, row, &counters, &keys, q as usize, p as usize, x)
 }
@@ -42,7 +42,7 @@ pub fn registers_at(
 ) -> Answer
     ensures { λ r. ⌜ outcome r ≡ registersAnswer variant (keyNumber key) (from .0) (to .0) registers ⌝ }
 {
-    match katan::row_of(variant) {
+    match variants::row_of(variant) {
         RowAnswer::Found(row) => {
             let q = from.0;
             let p = to.0;

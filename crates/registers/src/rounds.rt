@@ -36,14 +36,14 @@ fn round_32(u: RoundInput, s: Registers) -> Registers
     requires { ⌜ Bits u × Fits row32 s ⌝ }
     ensures { λ r. ⌜ r ≡ round row32 u s ⌝ }
 {
-    clock_of(katan::row_32(), u, s)
+    clock_of(variants::row_32(), u, s)
 }
 
 fn round_48(u: RoundInput, s: Registers) -> Registers
     requires { ⌜ Bits u × Fits row48 s ⌝ }
     ensures { λ r. ⌜ r ≡ round row48 u s ⌝ }
 {
-    let row = katan::row_48();
+    let row = variants::row_48();
     clock_of(row, u, clock_of(row, u, s))
 }
 
@@ -51,7 +51,7 @@ fn round_64(u: RoundInput, s: Registers) -> Registers
     requires { ⌜ Bits u × Fits row64 s ⌝ }
     ensures { λ r. ⌜ r ≡ round row64 u s ⌝ }
 {
-    let row = katan::row_64();
+    let row = variants::row_64();
     clock_of(row, u, clock_of(row, u, clock_of(row, u, s)))
 }
 
@@ -71,14 +71,14 @@ fn unround_32(u: RoundInput, s: Registers) -> Registers
     requires { ⌜ Bits u × Fits row32 s ⌝ }
     ensures { λ r. ⌜ r ≡ unround row32 u s ⌝ }
 {
-    unclock_of(katan::row_32(), u, s)
+    unclock_of(variants::row_32(), u, s)
 }
 
 fn unround_48(u: RoundInput, s: Registers) -> Registers
     requires { ⌜ Bits u × Fits row48 s ⌝ }
     ensures { λ r. ⌜ r ≡ unround row48 u s ⌝ }
 {
-    let row = katan::row_48();
+    let row = variants::row_48();
     unclock_of(row, u, unclock_of(row, u, s))
 }
 
@@ -86,7 +86,7 @@ fn unround_64(u: RoundInput, s: Registers) -> Registers
     requires { ⌜ Bits u × Fits row64 s ⌝ }
     ensures { λ r. ⌜ r ≡ unround row64 u s ⌝ }
 {
-    let row = katan::row_64();
+    let row = variants::row_64();
     unclock_of(row, u, unclock_of(row, u, unclock_of(row, u, s)))
 }
 

@@ -27,7 +27,7 @@ fn refused_fields(refusal: Refusal) -> Fields
 {
     Fields {
         kind: REFUSED,
-        first: katan::refusal_number(refusal) as u32,
+        first: variants::refusal_number(refusal) as u32,
         second: 0,
     }
 }

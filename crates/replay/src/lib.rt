@@ -58,7 +58,7 @@ pub fn replay(variant: u8, calls: &[u8], out: &mut [u8]) -> Replayed
         → slotView (getD (r .bench .slots) i emptySlot) ≡ machineView variant (machineAfter variant (callsRun variant (now (calls .entry)) (now (out .entry))) i)) ⌝ }
 {
     let bench = stepping::fresh_bench(variant);
-    let bad = katan::bad_variant(variant);
+    let bad = variants::bad_variant(variant);
     let whole = fits(calls, out.len());
     if bad {
         return Replayed {

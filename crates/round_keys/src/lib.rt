@@ -61,7 +61,7 @@ fn katan_keys(key: Key) -> [u8; 508]
 fn ktantan_keys(key: Key) -> [u8; 508]
     ensures { λ r. ⌜ Entries (λ i. bit (keyNumber key) (keyBitNumber i)) (2 * rounds) r ⌝ }
 {
-    let numbers = katan::key_bit_numbers();
+    let numbers = variants::key_bit_numbers();
     let bits = first_keys(key);
     let mut keys = no_keys();
     for i in 0..508 {

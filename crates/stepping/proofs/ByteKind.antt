@@ -5,7 +5,7 @@ use mathlib.Core.List.{List}
 use Prim.Native.Nat.{ℕ}
 use lib.ListN.{getD}
 use Rattle.record.specs.Fields.{kindOf, load, forward, back, clear, other, kind}
-use Rattle.record.proofs.Fields.{other-kind}
+use Rattle.record.proofs.ByKind.{other-kind}
 
 module _ {x : ℕ} (s : List ℕ) (e : x ≡ getD s 0 0) where
   pub is-load : x ≡ 1 → kind s ≡ load

@@ -60,7 +60,7 @@ pub struct Opening {
 fn variant_fault(variant: u8) -> OpenAnswer
     ensures { λ r. ⌜ openOutcome r ≡ checked (variantCheck variant ∷ []) (value tt) ⌝ }
 {
-    match katan::row_of(variant) {
+    match variants::row_of(variant) {
         RowAnswer::Found(_) => OpenAnswer::Opened,
         RowAnswer::Refused(r) => OpenAnswer::Refused(r),
     }

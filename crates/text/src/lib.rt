@@ -6,5 +6,5 @@ ghost use Rattle.text.specs.Form.{blockDigits};
 pub fn block_digits(variant: u8) -> usize
     ensures { λ r. ⌜ r ≡ blockDigits variant ⌝ }
 {
-    katan::width_of(variant) / 4
+    variants::width_of(variant) / 4
 }

@@ -377,7 +377,7 @@ fn print_word(word: &[u8], n: u64) {
 }
 
 fn print_refusal(r: Refusal) {
-    print_word(b"refused ", katan::refusal_number(r) as u64);
+    print_word(b"refused ", variants::refusal_number(r) as u64);
 }
 
 fn print_answer(a: Answer) {

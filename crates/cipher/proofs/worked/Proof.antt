@@ -19,7 +19,7 @@ use Rattle.cipher.proofs.worked.Tie as tie
 use Rattle.cipher.proofs.worked.Reads as reads
 use Rattle.cipher.proofs.worked.Lts as lts
 use Rattle.numbers.proofs.key_of.Reads as key-of-reads
-use Rattle.katan.proofs.bad_variant.Reads as bad-variant-reads
+use Rattle.variants.proofs.bad_variant.Reads as bad-variant-reads
 use Rattle.registers.proofs.registers_at.Reads as registers-at-reads
 
 -- with the key and the positions sound, the same checks are left

@@ -15,7 +15,7 @@ use Rattle.rate.proofs.bit_rate.Statement.{statement}
 use Rattle.rate.proofs.bit_rate.Tie as tie
 use Rattle.rate.proofs.bit_rate.Reads as reads
 use Rattle.rate.proofs.bit_rate.Lts as lts
-use Rattle.katan.proofs.row_of.Reads as row-of-reads
+use Rattle.variants.proofs.row_of.Reads as row-of-reads
 
 row-of-requires : tie.Need-row-of-requires
 row-of-requires c κs = search needs

@@ -9,7 +9,7 @@ use Rattle.registers.proofs.moved.Reads as reads
 use Rattle.registers.proofs.moved.Lts as lts
 use Rattle.round_keys.proofs.round_keys.Reads as round-keys-reads
 use Rattle.registers.proofs.rounds.between.Reads as between-reads
-use Rattle.katan.proofs.counters.Reads as counters-reads
+use Rattle.variants.proofs.counters.Reads as counters-reads
 
 counters-requires : tie.Need-counters-requires
 counters-requires c κs = search needs

@@ -13,7 +13,7 @@ use Rattle.registers.proofs.registers_at.Reads as reads
 use Rattle.registers.proofs.registers_at.Lts as lts
 use Rattle.registers.proofs.moved.Reads as moved-reads
 use Rattle.numbers.proofs.too_wide.Reads as too-wide-reads
-use Rattle.katan.proofs.row_of.Reads as row-of-reads
+use Rattle.variants.proofs.row_of.Reads as row-of-reads
 
 row-of-requires : tie.Need-row-of-requires
 row-of-requires c κs = search needs

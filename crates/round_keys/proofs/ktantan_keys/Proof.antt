@@ -16,7 +16,7 @@ use Rattle.round_keys.proofs.ktantan_keys.Lts as lts
 use Rattle.round_keys.proofs.first_keys.Reads as first-keys-reads
 use Rattle.round_keys.proofs.no_keys.Reads as no-keys-reads
 use Rattle.round_keys.proofs.place.Reads as place-reads
-use Rattle.katan.proofs.key_bit_numbers.Reads as key-bit-numbers-reads
+use Rattle.variants.proofs.key_bit_numbers.Reads as key-bit-numbers-reads
 
 -- an entry of the table that `key_bit_numbers` gives
 number-at : (xs : List ℕ) → xs ≡ tabulate keyBitNumber 0 508 → (i : ℕ) → i < 508 → getD xs i 0 ≡ keyBitNumber i

@@ -9,7 +9,7 @@ use Rattle.command.proofs.lines.opening_at.Lts as lts
 use Rattle.command.proofs.lines.byte_at.Reads as byte-at-reads
 use Rattle.command.proofs.lines.nothing_opened.Reads as nothing-opened-reads
 use Rattle.command.proofs.lines.numbered_at.Reads as numbered-at-reads
-use Rattle.katan.proofs.row_of.Reads as row-of-reads
+use Rattle.variants.proofs.row_of.Reads as row-of-reads
 
 -- src/lines.rt:85:9
 nothing-opened-requires : tie.Need-nothing-opened-requires

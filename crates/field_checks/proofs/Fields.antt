@@ -1,0 +1,41 @@
+-- Tests of a record's fields, and the checks that check 4 answers for a move or a clear.
+-- Assumes nothing.
+use mathlib.Core.Path.{_≡_, refl, ap, _∙_}
+use mathlib.Core.Bool.{Bool, true, false, not, _||_}
+use mathlib.Core.List.{List}
+use Prim.Native.Nat.{ℕ, _^_}
+use native.Mathlib.Omega.{arith}
+use borrow.Author.Tests.{eq-eqb, ne-eqb, eqb-true, not-false, lt-leb}
+use lib.Dec.{leb}
+use lib.Pow.{pow-pos}
+use Rattle.katan.specs.Variant.{widthOf}
+use Rattle.katan.specs.Bit.{pick}
+use Rattle.katan.specs.Checks.{Outcome, refused, checked}
+use Rattle.katan.specs.Sizes.{laneCount}
+use Rattle.record.specs.Fields.{Kind, lane, count, mask, key, block}
+use Rattle.record.specs.Checks.{nonzero, unknown, loadFields, unused, zeroBytes, wrongCount, noneNamed, checksOf}
+
+pub nonzero-true : (x : ℕ) → (x ≡ 0 → ⊥) → nonzero x ≡ true
+nonzero-true x h = ap not (ne-eqb x 0 h)
+
+pub nonzero-false : (x : ℕ) → x ≡ 0 → nonzero x ≡ false
+nonzero-false x e = ap not (eq-eqb x 0 e)
+
+is-zero : (x : ℕ) → nonzero x ≡ false → x ≡ 0
+is-zero x e = eqb-true x 0 (not-false _ e)
+
+neither : (a b : Bool) → a || b ≡ false → (a ≡ false) × (b ≡ false)
+neither true b e = let z : _≡_ {A = ℕ} 0 1 = cc in absurd (omega arith)
+neither false b e = (refl, e)
+
+-- where check 4 of a move or a clear finds no fault, lane and block are zero, so neither do 5 and 7
+pub after-4 : {A : Type 0} (k : Kind) (v : ℕ) (s : List ℕ) (r : Outcome A)
+    → unknown k ≡ false → zeroBytes s || unused k s ≡ false → loadFields s ≡ false
+    → checked (checksOf k v s) r ≡ pick (wrongCount k (count s)) (refused 6) (pick (noneNamed k (mask s)) (refused 8) r)
+after-4 k v s r known fourth e =
+    let parts = neither (nonzero (lane s) || nonzero (key s)) (nonzero (block s)) e in
+    let no-lane = is-zero (lane s) (neither (nonzero (lane s)) (nonzero (key s)) (parts .0) .0) in
+    let fifth : leb laneCount (lane s) ≡ false = ap (leb laneCount) no-lane in
+    let seventh : leb (2 ^ widthOf v) (block s) ≡ false
+    = ap (leb (2 ^ widthOf v)) (is-zero (block s) (parts .1)) ∙ lt-leb (2 ^ widthOf v) 0 (pow-pos (widthOf v)) in
+    rw (known, fourth, fifth, seventh)
