@@ -3,7 +3,7 @@
 use Prim.Native.Nat.{ℕ, zero, suc, _+_, _*_}
 use mathlib.Core.List.{List, [], _∷_, _++_}
 use lib.Dec.{eqb}
-use lib.ListN.{length, getD, set, take, drop}
+use lib.ListN.{length, getD, set, take, drop, replicate}
 use Rattle.katan.specs.Bit.{pick, bytesOf}
 use Rattle.katan.specs.Key.{keyNumber}
 use Rattle.katan.specs.Sizes.{laneCount, keyBytes}
@@ -59,6 +59,10 @@ benchIn s = record { variant = getD s 0 0; slots = slotsIn laneCount (drop 1 s) 
 
 unfoldable pub linkIn : List ℕ → Link
 linkIn s = record { last = part s 0 4; total = part s 4 4; bytes = recordIn (take recordLength (drop recordStart s)) }
+
+-- memory of another length than n is read as so many zeros
+abbrev pub readAs : ℕ → List ℕ → List ℕ
+readAs n s = pick (eqb (length s) n) s (replicate n 0)
 
 -- ---- the bytes that say it
 

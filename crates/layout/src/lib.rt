@@ -1,5 +1,5 @@
-// The bench and the link as a driver holds them, in bytes. Numbers are low byte first. What is read of them, a byte past the end counts as 0; lent
-// memory of another length is not written to.
+// The bench and the link as a driver holds them, in bytes. Numbers are low byte first. A bench of another length is read as zeros, a byte past
+// the end of a link counts as 0; lent memory of another length is not written to.
 ghost use mathlib.Core.Path.{_≡_};
 ghost use mathlib.Core.List.{[], _∷_};
 ghost use lib.ListN.{length};
@@ -7,7 +7,7 @@ ghost use Rattle.katan.specs.Key.{keyNumber};
 ghost use Rattle.katan.specs.Sizes.{keyBytes};
 ghost use Rattle.record.specs.Fields.{recordLength};
 ghost use Rattle.katan.specs.Bit.{bytesOf};
-ghost use Rattle.layout.specs.Layout.{laneLength, benchLength, linkLength, positionIn, loadedIn, laneIn, benchIn, linkIn, loadedBytes, laneBytes, benchBytes, linkBytes, fitted};
+ghost use Rattle.layout.specs.Layout.{laneLength, benchLength, linkLength, positionIn, loadedIn, laneIn, benchIn, linkIn, readAs, loadedBytes, laneBytes, benchBytes, linkBytes, fitted};
 use bench::Bench;
 use bench::Lane;
 use bench::Link;
@@ -76,23 +76,37 @@ fn lane_in(bytes: &[u8]) -> Lane
     Lane::Held(loaded_in(bytes))
 }
 
-pub fn bench_in(bytes: &[u8]) -> Bench
+fn whole_bench(bytes: &[u8]) -> Bench
+    requires { ⌜ length (now bytes) ≡ benchLength ⌝ }
     ensures { λ r. ⌜ r ≡ benchIn (now (bytes .entry)) ⌝ }
 {
-    let variant = byte_at(bytes, 0);
+    let variant = bytes[0];
     let none = Slot { lane: Lane::Empty };
     let mut slots = [none; LANES];
     let mut at: usize = 1;
     let mut i: usize = 0;
     while i < LANES {
-        let lane = lane_in(bytes_in(bytes, at, LANE_LENGTH));
+        let end = at + LANE_LENGTH;
+        let lane = lane_in(&bytes[at..end]);
         slots[i] = Slot { lane: lane };
-        at += LANE_LENGTH;
+        at = end;
         i += 1;
     }
     Bench {
         variant: variant,
         slots: slots,
+    }
+}
+
+// The length is looked at once: then a lane has its bytes, and the compiler loads words.
+pub fn bench_in(bytes: &[u8]) -> Bench
+    ensures { λ r. ⌜ r ≡ benchIn (readAs benchLength (now (bytes .entry))) ⌝ }
+{
+    if bytes.len() == BENCH_LENGTH {
+        whole_bench(bytes)
+    } else {
+        let zeros = [0u8; BENCH_LENGTH];
+        whole_bench(&zeros)
     }
 }
 

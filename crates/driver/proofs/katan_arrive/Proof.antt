@@ -1,5 +1,6 @@
 use mathlib.Core.Path.{sym, _∙_}
 use Rattle.driver.proofs.Arrivals.{arrival-refused, arrival-passed, arrive-2, arrive-1, arrive-2-link, arrive-2-answer, arrive-passed}
+use Rattle.layout.proofs.Fitted.{bench-read}
 use borrow.Author.Needs.{needs}
 use Rattle.driver.proofs.katan_arrive.Statement.{statement}
 use Rattle.driver.proofs.katan_arrive.Tie as tie
@@ -23,7 +24,7 @@ returns-2 c =
     let b = c .before .before in
     let e = b .before .before in
     let d = e .before .before .before .before .before in
-    arrival-refused (d .args .bench .now) (d .args .link .now) (d .args .sent .now) (d .args .answer .now) (arrive-1 (d .args .bench .now) (d .args .link .now) (d .args .sent .now) (d .args .answer .now) (e .if1 .left) (b .bench-in .result) (b .bench-in .ensures) (sym (c .before .bad-bench .ensures) ∙ c .if2 .taken))
+    arrival-refused (d .args .bench .now) (d .args .link .now) (d .args .sent .now) (d .args .answer .now) (arrive-1 (d .args .bench .now) (d .args .link .now) (d .args .sent .now) (d .args .answer .now) (e .if1 .left) (b .bench-in .result) (bench-read (d .args .bench .now) (b .bench-in .result) (e .if1 .left) (b .bench-in .ensures)) (sym (c .before .bad-bench .ensures) ∙ c .if2 .taken))
 
 same-length-2 : tie.Need-same-length-2
 same-length-2 c = search needs
@@ -34,7 +35,7 @@ returns-3 c =
     let b = f .before .before in
     let e = b .before .before in
     let d = e .before .before .before .before .before in
-    arrival-refused (d .args .bench .now) (d .args .link .now) (d .args .sent .now) (d .args .answer .now) (arrive-2-link (d .args .bench .now) (d .args .link .now) (d .args .sent .now) (d .args .answer .now) (e .if1 .left) (b .bench-in .result) (b .bench-in .ensures) (sym (f .before .bad-bench .ensures) ∙ f .if2 .left) (c .if3 .taken))
+    arrival-refused (d .args .bench .now) (d .args .link .now) (d .args .sent .now) (d .args .answer .now) (arrive-2-link (d .args .bench .now) (d .args .link .now) (d .args .sent .now) (d .args .answer .now) (e .if1 .left) (b .bench-in .result) (bench-read (d .args .bench .now) (b .bench-in .result) (e .if1 .left) (b .bench-in .ensures)) (sym (f .before .bad-bench .ensures) ∙ f .if2 .left) (c .if3 .taken))
 
 same-length-3 : tie.Need-same-length-3
 same-length-3 c = search needs
@@ -46,7 +47,7 @@ returns-4 c =
     let b = f .before .before in
     let e = b .before .before in
     let d = e .before .before .before .before .before in
-    arrival-refused (d .args .bench .now) (d .args .link .now) (d .args .sent .now) (d .args .answer .now) (arrive-2-answer (d .args .bench .now) (d .args .link .now) (d .args .sent .now) (d .args .answer .now) (e .if1 .left) (b .bench-in .result) (b .bench-in .ensures) (sym (f .before .bad-bench .ensures) ∙ f .if2 .left) (g .if3 .left) (c .if4 .taken))
+    arrival-refused (d .args .bench .now) (d .args .link .now) (d .args .sent .now) (d .args .answer .now) (arrive-2-answer (d .args .bench .now) (d .args .link .now) (d .args .sent .now) (d .args .answer .now) (e .if1 .left) (b .bench-in .result) (bench-read (d .args .bench .now) (b .bench-in .result) (e .if1 .left) (b .bench-in .ensures)) (sym (f .before .bad-bench .ensures) ∙ f .if2 .left) (g .if3 .left) (c .if4 .taken))
 
 link-in-requires : tie.Need-link-in-requires
 link-in-requires c κs = search needs
@@ -78,8 +79,8 @@ returns-5 c =
     let e = b .before .before in
     let d = e .before .before .before .before .before in
     arrival-passed (d .args .bench .now) (d .args .link .now) (d .args .sent .now) (d .args .answer .now)
-    (arrive-passed (d .args .bench .now) (d .args .link .now) (d .args .sent .now) (d .args .answer .now) (e .if1 .left) (b .bench-in .result) (b .bench-in .ensures) (sym (f .before .bad-bench .ensures) ∙ f .if2 .left) (g .if3 .left) (h .if4 .left))
-    (b .bench-in .ensures) (k .link-in .ensures) (a .arrive-once .result) (a .arrive-once .ensures) (p .put-arrival .ensures)
+    (arrive-passed (d .args .bench .now) (d .args .link .now) (d .args .sent .now) (d .args .answer .now) (e .if1 .left) (b .bench-in .result) (bench-read (d .args .bench .now) (b .bench-in .result) (e .if1 .left) (b .bench-in .ensures)) (sym (f .before .bad-bench .ensures) ∙ f .if2 .left) (g .if3 .left) (h .if4 .left))
+    (bench-read (d .args .bench .now) (b .bench-in .result) (e .if1 .left) (b .bench-in .ensures)) (k .link-in .ensures) (a .arrive-once .result) (a .arrive-once .ensures) (p .put-arrival .ensures)
 
 pub katan-arrive-spec : {M : Type 1} → statement M
 katan-arrive-spec =

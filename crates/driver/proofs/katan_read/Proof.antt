@@ -1,6 +1,7 @@
 use mathlib.Core.Path.{sym, _∙_}
 use Rattle.driver.specs.Calls.{responseWords, readCall}
 use Rattle.driver.proofs.Statuses.{refused-call, passed-call, read-2, read-1, read-2-answer, read-passed}
+use Rattle.layout.proofs.Fitted.{bench-read}
 use borrow.Author.Needs.{needs}
 use Rattle.driver.proofs.katan_read.Statement.{statement}
 use Rattle.driver.proofs.katan_read.Tie as tie
@@ -24,7 +25,7 @@ returns-2 c =
     let d = e .before .before .before in
     let answer = d .args .answer .now in
     refused-call responseWords (readCall (d .args .bench .now) (d .args .lane) answer) answer
-    (read-1 (d .args .bench .now) (d .args .lane) answer (e .if1 .left) (b .bench-in .result) (b .bench-in .ensures) (sym (c .before .bad-bench .ensures) ∙ c .if2 .taken))
+    (read-1 (d .args .bench .now) (d .args .lane) answer (e .if1 .left) (b .bench-in .result) (bench-read (d .args .bench .now) (b .bench-in .result) (e .if1 .left) (b .bench-in .ensures)) (sym (c .before .bad-bench .ensures) ∙ c .if2 .taken))
 
 returns-3 : tie.Need-returns-3
 returns-3 c =
@@ -34,7 +35,7 @@ returns-3 c =
     let d = e .before .before .before in
     let answer = d .args .answer .now in
     refused-call responseWords (readCall (d .args .bench .now) (d .args .lane) answer) answer
-    (read-2-answer (d .args .bench .now) (d .args .lane) answer (e .if1 .left) (b .bench-in .result) (b .bench-in .ensures) (sym (f .before .bad-bench .ensures) ∙ f .if2 .left) (c .if3 .taken))
+    (read-2-answer (d .args .bench .now) (d .args .lane) answer (e .if1 .left) (b .bench-in .result) (bench-read (d .args .bench .now) (b .bench-in .result) (e .if1 .left) (b .bench-in .ensures)) (sym (f .before .bad-bench .ensures) ∙ f .if2 .left) (c .if3 .taken))
 
 read-requires : tie.Need-read-requires
 read-requires c κs = search needs
@@ -55,7 +56,7 @@ returns-4 c =
     let d = e .before .before .before in
     let answer = d .args .answer .now in
     passed-call responseWords (readCall (d .args .bench .now) (d .args .lane) answer) answer _
-    (read-passed (d .args .bench .now) (d .args .lane) answer (e .if1 .left) (b .bench-in .result) (b .bench-in .ensures) (sym (f .before .bad-bench .ensures) ∙ f .if2 .left) (g .if3 .left) ∙ sym (r .read .ensures))
+    (read-passed (d .args .bench .now) (d .args .lane) answer (e .if1 .left) (b .bench-in .result) (bench-read (d .args .bench .now) (b .bench-in .result) (e .if1 .left) (b .bench-in .ensures)) (sym (f .before .bad-bench .ensures) ∙ f .if2 .left) (g .if3 .left) ∙ sym (r .read .ensures))
     (c .before .before .put-reading .ensures)
 
 pub katan-read-spec : {M : Type 1} → statement M
