@@ -1,4 +1,4 @@
--- `katan::row_of` meets its contract.
+-- `row_of` meets its contract.
 -- Assumes nothing.
 use mathlib.Core.Path.{sym, ap, _∙_}
 use borrow.Author.Needs.{needs}
