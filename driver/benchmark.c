@@ -1,5 +1,6 @@
-// Measures the proved code beside plain C, in one run: the results are compared first, then each is timed many times, taking
-// turns, and the best time of each counts. A ratio above 1 says that the proved code is faster.
+// Measures the proved code beside our own C (peers.h), in one run: the results are compared first, then each is timed many times,
+// taking turns, and the best time of each counts. A ratio above 1 says that the proved code is faster. 'Bit-sliced C' is our own in
+// the way of the ciphers' authors, not their code.
 #include "katan_bench.h"
 #include "peers.h"
 

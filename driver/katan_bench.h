@@ -1,8 +1,9 @@
 /*
  * The KATAN stepping bench, for a driver in C: the calls of libdriver.a (`rt staticlib driver`).
  *
- * Status. Each call but katan_cycles returns 0, or the number of the first fault found ("Turned away" in the
- * scope document): the faults are looked for by rising number. A refused call leaves all lent memory as it was.
+ * Status. Each call but katan_cycles returns 0, or the number of the first fault found ("The refusals" in README.md):
+ * the faults are looked for by rising number, as each call says under "Checked"; only a bench of another length gets
+ * KATAN_BAD_LENGTH before anything is looked for in it. A refused call leaves all lent memory as it was.
  *
  * Slices. A slice is lent as a pointer and then its length, in elements, not in bytes. A length other than the one
  * named at the call gets KATAN_BAD_LENGTH. A pointer is never NULL and is aligned for its element, also where the
@@ -11,9 +12,9 @@
  * LENT MEMORY MUST NOT OVERLAP: during a call, memory that the call may write shares no byte with any other memory
  * lent to it, and nothing else reads or writes it. Memory that a call only reads may be shared with other readers.
  *
- * Nothing is kept between calls: all state is in the bench and the link, which the driver holds, and what it hands
- * in is checked on every call, whatever bytes it holds. A call reads and writes no other memory, and may be made
- * from several threads at once on memory of their own.
+ * Nothing is kept between calls: all state is in the bench and the link, which the driver holds. A bench may hold any
+ * bytes and is checked on every call; of a link only the length is: hand in one that an earlier call left. A call reads
+ * and writes no other memory, and may be made from several threads at once on memory of their own.
  */
 #ifndef KATAN_BENCH_H
 #define KATAN_BENCH_H
@@ -33,20 +34,26 @@ extern "C" {
 #define KTANTAN48 5
 #define KTANTAN64 6
 
-/* The status of a call. */
-#define KATAN_OK 0
-#define KATAN_BAD_VARIANT 1     /* the variant is not 1 to 6, or a lane of the bench handed in is damaged */
-#define KATAN_BAD_LENGTH 2      /* lent memory has another length, or there are 0 or over 64 blocks */
-#define KATAN_BAD_KIND 3        /* the record's kind is not 1 to 4 */
-#define KATAN_FIELD_NOT_ZERO 4  /* an unused field or a zero byte of the record is not zero */
-#define KATAN_BAD_LANE 5        /* the lane is over 63 */
-#define KATAN_BAD_POSITION 6    /* a load position is over 254, or a move count is 0 or over 254 */
-#define KATAN_BAD_BLOCK 7       /* a block is 2^n or more */
-#define KATAN_EMPTY_MASK 8      /* the mask of a move or clear is 0 */
-#define KATAN_OUT_OF_TURN 9     /* the number is neither last + 1 nor a nonzero last */
-#define KATAN_OTHER_BYTES 10    /* the number is last but the bytes differ */
-#define KATAN_EMPTY_LANE 11     /* the lane read is empty */
-#define KATAN_BAD_RATE 12       /* the clock rate is 0 or over 2,940,000,000 */
+/*
+ * The status of a call, and the calls that give it. A refusal among the answers of katan_replay has the number that
+ * katan_arrive or katan_read would give. No call gives 13, which is for a line of a script.
+ */
+#define KATAN_OK 0              /* done */
+#define KATAN_BAD_VARIANT 1     /* the variant is not 1 to 6, or a lane of the bench handed in is damaged
+                                   (every call with a status) */
+#define KATAN_BAD_LENGTH 2      /* lent memory has another length, or there are 0 or over 64 blocks
+                                   (every call with a status) */
+#define KATAN_BAD_KIND 3        /* the record's kind is not 1 to 4 (katan_arrive) */
+#define KATAN_FIELD_NOT_ZERO 4  /* an unused field or a zero byte of the record is not zero (katan_arrive) */
+#define KATAN_BAD_LANE 5        /* the lane is over 63 (katan_arrive, katan_read) */
+#define KATAN_BAD_POSITION 6    /* a load position is over 254, or a move count is 0 or over 254 (katan_arrive) */
+#define KATAN_BAD_BLOCK 7       /* a block is 2^n or more
+                                   (katan_encrypt, katan_decrypt, both for many blocks, katan_arrive) */
+#define KATAN_EMPTY_MASK 8      /* the mask of a move or clear is 0 (katan_arrive) */
+#define KATAN_OUT_OF_TURN 9     /* the number is neither last + 1 nor a nonzero last (katan_arrive) */
+#define KATAN_OTHER_BYTES 10    /* the number is last but the bytes differ (katan_arrive) */
+#define KATAN_EMPTY_LANE 11     /* the lane read is empty (katan_read) */
+#define KATAN_BAD_RATE 12       /* the clock rate is 0 or over 2,940,000,000 (katan_bit_rate) */
 
 /* Sizes, in bytes unless it says words. */
 #define KATAN_LANES 64

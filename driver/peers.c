@@ -1,3 +1,4 @@
+// Our own C to measure beside the proved code: none of it is the ciphers' authors'.
 #include "peers.h"
 
 #include <string.h>
@@ -84,7 +85,7 @@ void peer_scalar(int variant, int decrypt, const u8 *keys, const u64 *blocks, u6
     for (size_t i = 0; i < count; i++) out[i] = peer_one(variant, decrypt, keys + 10 * i, blocks[i]);
 }
 
-// ---- bit-sliced: word i of a register holds bit i of all lanes
+// ---- bit-sliced, in the way of the ciphers' authors: word i of a register holds bit i of all lanes
 
 INLINE void sliced_rounds(int len1, int len2, int x2, int x3, int x4, int x5, int y2, int y3, int y4, int y5, int y6, int clocks,
                           int decrypt, const u64 *k, u64 *l2) {

@@ -1,4 +1,4 @@
-// KATAN and KTANTAN in plain C, to be measured beside the proved code. All take up to 64 blocks, block i with
+// KATAN and KTANTAN in our own plain C, to be measured beside the proved code. All take up to 64 blocks, block i with
 // the key in bytes 10i to 10i + 9.
 #ifndef PEERS_H
 #define PEERS_H
@@ -14,8 +14,8 @@ void peers_init(void);
 // One block after the other, taps compiled in.
 many_blocks peer_scalar;
 
-// Bit-sliced as the ciphers' authors published it: register arrays that shift at each clock, blocks and keys
-// taken apart bit by bit.
+// Our own bit-sliced C in the way of the ciphers' authors, not their code: register arrays that shift at each
+// clock, blocks and keys taken apart bit by bit.
 many_blocks peer_sliced;
 
 // The same with 64 by 64 bit transposes instead.

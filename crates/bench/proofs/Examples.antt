@@ -9,8 +9,9 @@ use lib.ListN.{replicate, set}
 use Rattle.katan.specs.Clock.{inputOf}
 use Rattle.katan.specs.Machine.{registersAt}
 use Rattle.katan.specs.Checks.{Outcome, value, refused}
-use Rattle.record.specs.Fields.{sameBytes, kindOf, namesAs}
-use Rattle.record.specs.Checks.{unknown, unused, wrongCount, noneNamed}
+use Rattle.bench_record.specs.Fields.{sameBytes, kindOf, namesAs}
+use Rattle.bench_record.specs.Checks.{unknown, unused, wrongCount, noneNamed}
+use Rattle.bench.specs.declared.Reading.{Reading}
 use Rattle.bench.specs.Machine.{stepAs, movedAs, stepAll, totalOf}
 use Rattle.bench.specs.Calls.{Call, arrival, reading, done, again, at, Answer, answersTo}
 use Rattle.bench.specs.Checks.{LaneView, emptyLane, loadedLane, View, laneFault, anyLaneFault, isEmpty, arrivalChecks, readChecks, Turn, counts, repeats, decision, laneAnswer, readOutcome}
@@ -26,13 +27,16 @@ bytes kind lane count number mask k =
 abbrev sent : (kind lane count number mask : ℕ) → Call
 sent kind lane count number mask = arrival (bytes kind lane count number mask 0)
 
+abbrev shows : (position registers : ℕ) → Reading
+shows p x = record { position = record { 0 = p }; registers = x }
+
 -- ---- the script
 
 abbrev script : List Call
 script = arrival (bytes 1 0 0 1 0 255) ∷ sent 2 0 5 2 1 ∷ sent 2 0 5 2 1 ∷ reading 0 ∷ []
 
 abbrev printed : List Answer
-printed = value (done 1 0) ∷ value (done 2 5) ∷ value (again 2 5) ∷ value (at 5 0x00f8001e) ∷ []
+printed = value (done 1 0) ∷ value (done 2 5) ∷ value (again 2 5) ∷ value (at (shows 5 0x00f8001e)) ∷ []
 
 script-model : modelAnswers 1 script ≡ printed
 unfolding inputOf registersAt kindOf namesAs unknown unused wrongCount noneNamed stepAs movedAs stepAll totalOf answersTo laneFault anyLaneFault sameBytes isEmpty arrivalChecks readChecks decision laneAnswer readOutcome freshModel machineView modelView afterCounted arrivalAs modelTransition
@@ -55,7 +59,7 @@ cases =
 
 pub cases-model : modelAnswers 4 cases
     ≡ refused 9 ∷ value (done 1 0) ∷ value (again 1 0) ∷ refused 10 ∷ refused 9
-    ∷ value (done 2 0) ∷ refused 5 ∷ value (at 0 0) ∷ refused 5 ∷ refused 11
+    ∷ value (done 2 0) ∷ refused 5 ∷ value (at (shows 0 0)) ∷ refused 5 ∷ refused 11
     ∷ refused 2 ∷ refused 3 ∷ refused 4 ∷ refused 4
     ∷ refused 6 ∷ refused 6 ∷ refused 6 ∷ refused 7 ∷ refused 8
     ∷ value (done 3 0) ∷ value (done 4 6) ∷ value (done 5 1) ∷ value (done 6 0) ∷ value (done 7 4) ∷ value (done 8 1) ∷ value (done 9 0) ∷ refused 11 ∷ value (done 10 0)
@@ -75,8 +79,8 @@ abbrev decide : List (View × List ℕ) → List (Outcome Turn)
 decide = map (λ (x : View × List ℕ). decision (x .0) (x .1))
 
 pub order : decide (
-    (view 0 emptyLane 0 [], bytes 1 0 0 1 0 0) ∷ (view 7 emptyLane 0 [], []) ∷ (view 1 (loadedLane 255 0) 0 [], []) ∷ (view 1 (loadedLane 0 (2 ^ 32)) 0 [], [])
-    ∷ (view 1 (loadedLane 254 (2 ^ 32 - 1)) 0 [], bytes 1 0 0 1 0 0) ∷ (view 2 (loadedLane 0 (2 ^ 32)) 0 [], bytes 1 0 0 1 0 0)
+    (view 0 emptyLane 0 [], bytes 1 0 0 1 0 0) ∷ (view 7 emptyLane 0 [], []) ∷ (view 1 (loadedLane (shows 255 0)) 0 [], []) ∷ (view 1 (loadedLane (shows 0 (2 ^ 32))) 0 [], [])
+    ∷ (view 1 (loadedLane (shows 254 (2 ^ 32 - 1))) 0 [], bytes 1 0 0 1 0 0) ∷ (view 2 (loadedLane (shows 0 (2 ^ 32))) 0 [], bytes 1 0 0 1 0 0)
     ∷ (view 1 emptyLane 0 [], 5 ∷ []) ∷ (view 1 emptyLane 0 [], set (bytes 5 0 0 1 0 0) 3 1) ∷ (view 1 emptyLane 0 [], bytes 1 64 0 1 1 0)
     ∷ (view 1 emptyLane 0 [], bytes 1 64 255 1 0 0) ∷ (view 1 emptyLane 0 [], set (bytes 1 0 255 1 0 0) 30 1) ∷ (view 1 emptyLane 0 [], set (bytes 1 0 0 2 0 0) 30 1)
     ∷ (view 1 emptyLane 0 [], bytes 4 0 0 2 0 0) ∷ (view 1 emptyLane 0 [], bytes 4 0 0 0 1 0)

@@ -1,4 +1,4 @@
-pub mod Checked
+pub mod Calls
 pub mod Turns
 pub mod Follow
 pub mod Records

@@ -1,15 +1,14 @@
 -- Demand 3: every list of calls is answered as the reference model answers it, and leaves each lane as its machine.
 -- Assumes nothing.
 use mathlib.Core.Path.{_≡_, refl, sym, ap, ap₂, _∙_}
-use mathlib.Core.Bool.{false}
 use mathlib.Core.List.{List, [], _∷_, map}
-use Prim.Native.Nat.{ℕ, _≤_}
+use Prim.Native.Nat.{ℕ}
 use native.Mathlib.Omega.{arith}
 use lib.ListN.{length, getD}
-use borrow.Author.Tests.{le-leb, le-ltb}
-use Rattle.katan.specs.Checks.{Outcome, value, refused, variantCheck}
+use Rattle.katan.specs.Checks.{Outcome, value, refused}
+use Rattle.katan.proofs.Variants.{variant-sound}
 use Rattle.katan.specs.Sizes.{laneCount}
-use Rattle.record.specs.Fields.{kind, number}
+use Rattle.bench_record.specs.Fields.{decode, kind}
 use Rattle.bench.specs.Calls.{Call, arrival, reading, done, again, Answer, stateAfter, answersTo}
 use Rattle.bench.specs.Checks.{View, Turn, counts, repeats, decision}
 use Rattle.bench.specs.Model.{Model, freshModel, machineView, modelView, afterCounted, arrivalAs, modelTransition}
@@ -56,13 +55,13 @@ module _ (v : ℕ) where
     unfolding effectAs arrivalAs countedEffect afterCounted modelView
     same-effect s (value counts) e =
         let c = counts-next (modelView v m) s e in
-        let t = counted-total v s (x .bench .slots) (m .machines) (k .lanes) (kind s) refl in
+        let t = counted-total v (decode s) (x .bench .slots) (m .machines) (k .lanes) (kind (decode s)) refl in
         record {
-          answer = ap (λ (n : ℕ). value (done (number s) n)) t;
+          answer = ap (λ (n : ℕ). value (done (decode s .number) n)) t;
           next =
               record {
                 variant = k .variant;
-                lanes = rw (k .variant) (counted-slots v s (x .bench .slots) (m .machines) (k .lanes) (kind s) refl (c .0 .count-in) (c .0 .block-in));
+                lanes = rw (k .variant) (counted-slots v (decode s) (x .bench .slots) (m .machines) (k .lanes) (kind (decode s)) refl (c .0 .count-in) (c .0 .block-in));
                 last = omega (arith, c .1);
                 latest = refl;
                 total = t;
@@ -94,9 +93,6 @@ module _ (v : ℕ) where
   unfolding freshState freshModel
   fresh-keeps = record { variant = refl; lanes = fresh-follow v laneCount; last = refl; latest = tt; total = refl; machines = fresh-made }
 
-is-variant : (v : ℕ) → 1 ≤ v → v ≤ 6 → variantCheck v .fault ≡ false
-is-variant v least most = rw (le-leb 1 v least, le-ltb 6 v most)
-
 -- THEOREM: for every variant and every list of calls, the bench follows the reference model
 pub every-list : EveryList
 every-list v least most calls =
@@ -107,7 +103,7 @@ every-list v least most calls =
       same-answers = r .0;
       same-lanes = λ i lt. view-at v slots (m .machines) (r .1 .lanes) i;
       made-by-records = r .1 .machines .made;
-      no-check-1 = rw (is-variant v least most, no-faults v slots (m .machines) (r .1 .lanes));
+      no-check-1 = rw (variant-sound v least most, no-faults v slots (m .machines) (r .1 .lanes));
     }
 
 -- THEOREM: lists whose counted records say the same of a lane leave it alike

@@ -1,20 +1,19 @@
--- For code over these definitions: one turn of each loop, a lane's view, a key and its number, a fresh bench.
+-- For code over these definitions: one turn of each loop, a lane's view.
 -- Assumes nothing.
-use mathlib.Core.Path.{_≡_, sym, ap₂}
+use mathlib.Core.Path.{_≡_}
 use mathlib.Core.Bool.{_||_}
 use mathlib.Core.List.{List, _++_, map, append-assoc}
-use Prim.Native.Nat.{ℕ, suc, _+_, _/_, _%_, _^_, _<_, _≤_}
+use Prim.Native.Nat.{ℕ, suc, _+_, _/_, _%_, _<_}
 use native.Mathlib.Numerals.{add-one}
 use native.Mathlib.Omega.{arith}
 use lib.ListN.{length, getD, take, drop, set, List·getD-map}
-use lib.Pow.{high, low}
 use lib.Seq.{drop-cons, take-suc-set, drop-set-lt}
-use Rattle.katan.specs.Key.{keyNumber}
-use Rattle.katan.specs.declared.Key.{Key}
 use Rattle.bench.specs.declared.Lane.{Lane}
 use Rattle.bench.specs.declared.Slot.{Slot}
 use Rattle.bench.specs.Checks.{emptyLane, laneFault, anyLaneFault}
-use Rattle.bench.specs.Bench.{emptySlot, slotView, keyOf, stepSlot, movedSlot, stepSlots, movedSlots}
+use Rattle.bench.specs.Bench.{emptySlot, slotView}
+use Rattle.bench.specs.Steps.{stepSlots, movedSlots}
+use Rattle.bench.specs.inner.Slots.{stepSlot, movedSlot}
 
 -- ---- check 1 over the lanes
 
@@ -40,14 +39,7 @@ module _ (ss : List Slot) (i m : ℕ) (x : Slot) (h : i < length ss) where
       let lt : i < suc i = omega arith in
       simp (add-one, drop-set-lt (suc i) ss i x lt, drop-cons ss i emptySlot h) (simp e)
 
--- ---- a lane at its place, a key, a fresh bench
+-- ---- a lane at its place
 
 pub slot-at : (ss : List Slot) (i : ℕ) → getD (map slotView ss) i emptyLane ≡ slotView (getD ss i emptySlot)
 slot-at ss i = List·getD-map slotView ss i emptySlot
-
-key-with : ℕ → ℕ → Key
-key-with a b = record { low = a; high = b }
-
-pub key-is : (k : Key) (n : ℕ) → k .low < 2 ^ 64 → keyNumber k ≡ n → k ≡ keyOf n
-unfolding key-with
-key-is k n h e = rw (← e) (ap₂ key-with (sym (low (k .high) 64 h)) (sym (high (k .high) 64 h)))

@@ -11,15 +11,15 @@ use lib.ListN.{length}
 use borrow.Author.Tests.{leb-false, eqb-true, eqb-false, eq-eqb, not-false}
 use Rattle.katan.specs.Bit.{pick}
 use Rattle.katan.specs.Variant.{widthOf}
-use Rattle.katan.specs.Checks.{Outcome, value, checked}
+use Rattle.katan.specs.Checks.{Outcome, value, checked, sizeCheck}
 use Rattle.katan.specs.Sizes.{laneCount}
-use Rattle.record.specs.Fields.{sameBytes, recordLength, kind, lane, count, block, number}
-use Rattle.record.specs.Checks.{nonzero, wrongCount, fieldChecks, lengthCheck}
-use Rattle.record.proofs.Same.{same-equal}
-use Rattle.record.proofs.Parts.{number-below}
+use Rattle.bench_record.specs.Fields.{sameBytes, recordLength, decode, kind}
+use Rattle.bench_record.specs.Checks.{nonzero, wrongCount, fieldChecks}
+use Rattle.bench_record.proofs.Same.{same-equal}
+use Rattle.bench_record.proofs.Parts.{number-below}
 use Rattle.bench.specs.Checks.{LaneView, View, benchCheck, turnChecks, arrivalChecks, Turn, counts, repeats, turnOf, decision}
 use Rattle.bench.specs.Claim.{OnlyRepeats}
-use Rattle.bench.proofs.Checked.{NoFault, all-passed, checked-append}
+use Rattle.katan.proofs.Checked.{NoFault, all-passed, checked-append}
 
 -- ---- the tests of checks 9 and 10
 
@@ -41,11 +41,11 @@ same-record n last latest s e h = sym (same-equal latest s (not-false (sameBytes
 
 pub record Accepted (w : View) (s : List ℕ) : Type 0 where
   pub size : length s ≡ recordLength
-  pub lane-in : lane s < laneCount
-  pub count-in : wrongCount (kind s) (count s) ≡ false
-  pub block-in : block s < 2 ^ widthOf (w .variant)
-  pub turn : (number s ≡ w .last + 1) ⊎ ((number s ≡ w .last) × (0 < w .last))
-  pub same : number s ≡ w .last → s ≡ w .latest
+  pub lane-in : decode s .lane < laneCount
+  pub count-in : wrongCount (kind (decode s)) (decode s .count) ≡ false
+  pub block-in : decode s .block < 2 ^ widthOf (w .variant)
+  pub turn : (decode s .number ≡ w .last + 1) ⊎ ((decode s .number ≡ w .last) × (0 < w .last))
+  pub same : decode s .number ≡ w .last → s ≡ w .latest
 
 module _ (w : View) (s : List ℕ) where
   pub accepted : NoFault (arrivalChecks w s) → Accepted w s
@@ -55,27 +55,27 @@ module _ (w : View) (s : List ℕ) where
       let after-8 = after-4 .1 .1 .1 .1 in
       record {
         size = eqb-true (length s) recordLength (not-false (eqb (length s) recordLength) (z .1 .0));
-        lane-in = leb-false laneCount (lane s) (after-4 .0);
+        lane-in = leb-false laneCount (decode s .lane) (after-4 .0);
         count-in = after-4 .1 .0;
-        block-in = leb-false (2 ^ widthOf (w .variant)) (block s) (after-4 .1 .1 .0);
-        turn = in-turn (number s) (w .last) (after-8 .0);
-        same = same-record (number s) (w .last) (w .latest) s (after-8 .1 .0);
+        block-in = leb-false (2 ^ widthOf (w .variant)) (decode s .block) (after-4 .1 .1 .0);
+        turn = in-turn (decode s .number) (w .last) (after-8 .0);
+        same = same-record (decode s .number) (w .last) (w .latest) s (after-8 .1 .0);
       }
 
   -- it counts if numbered last + 1
-  pub counts-next : decision w s ≡ value counts → Accepted w s × (number s ≡ w .last + 1)
+  pub counts-next : decision w s ≡ value counts → Accepted w s × (decode s .number ≡ w .last + 1)
   unfolding decision
   counts-next e =
       let a = all-passed counts (arrivalChecks w s) (value (turnOf (w .last) s)) e in
-      (accepted (a .0), go (eqb (number s) (w .last + 1)) refl (a .1))
+      (accepted (a .0), go (eqb (decode s .number) (w .last + 1)) refl (a .1))
     where
-      go : (b : Bool) → eqb (number s) (w .last + 1) ≡ b → value (pick b counts repeats) ≡ value counts → number s ≡ w .last + 1
-      go true p q = eqb-true (number s) (w .last + 1) p
+      go : (b : Bool) → eqb (decode s .number) (w .last + 1) ≡ b → value (pick b counts repeats) ≡ value counts → decode s .number ≡ w .last + 1
+      go true p q = eqb-true (decode s .number) (w .last + 1) p
       go false p q = let z : _≡_ {A = ℕ} 0 1 = cc in absurd (omega arith)
 
   -- and is otherwise a repeat, of the latest and of a nonzero number
   pub record IsRepeat : Type 0 where
-    pub is-last : number s ≡ w .last
+    pub is-last : decode s .number ≡ w .last
     pub some : 0 < w .last
     pub is-latest : s ≡ w .latest
 
@@ -83,25 +83,25 @@ module _ (w : View) (s : List ℕ) where
   unfolding decision
   repeats-last e =
       let a = all-passed repeats (arrivalChecks w s) (value (turnOf (w .last) s)) e in
-      go (eqb (number s) (w .last + 1)) refl (a .1) (accepted (a .0) .turn) (accepted (a .0) .same)
+      go (eqb (decode s .number) (w .last + 1)) refl (a .1) (accepted (a .0) .turn) (accepted (a .0) .same)
     where
-      go : (b : Bool) → eqb (number s) (w .last + 1) ≡ b → value (pick b counts repeats) ≡ value repeats
-          → (number s ≡ w .last + 1) ⊎ ((number s ≡ w .last) × (0 < w .last)) → (number s ≡ w .last → s ≡ w .latest) → IsRepeat
+      go : (b : Bool) → eqb (decode s .number) (w .last + 1) ≡ b → value (pick b counts repeats) ≡ value repeats
+          → (decode s .number ≡ w .last + 1) ⊎ ((decode s .number ≡ w .last) × (0 < w .last)) → (decode s .number ≡ w .last → s ≡ w .latest) → IsRepeat
       go true p q t same = let z : _≡_ {A = ℕ} 0 1 = cc in absurd (omega arith)
-      go false p q (inl t) same = absurd (eqb-false (number s) (w .last + 1) p t)
+      go false p q (inl t) same = absurd (eqb-false (decode s .number) (w .last + 1) p t)
       go false p q (inr t) same = record { is-last = t .0; some = t .1; is-latest = same (t .0) }
 
 -- ---- the checks in parts: 1 and 2, 3 to 8, 9 and 10
 
 pub decision-parts : (w : View) (s : List ℕ) → decision w s
-    ≡ checked (benchCheck (w .variant) (w .lanes) ∷ lengthCheck s ∷ [])
-    (checked (fieldChecks (w .variant) s) (checked (turnChecks (w .last) (w .latest) s) (value (turnOf (w .last) s))))
+    ≡ checked (benchCheck (w .variant) (w .lanes) ∷ sizeCheck recordLength s ∷ [])
+    (checked (fieldChecks (w .variant) (decode s)) (checked (turnChecks (w .last) (w .latest) s) (value (turnOf (w .last) s))))
 unfolding decision arrivalChecks
 decision-parts w s =
-    checked-append (benchCheck (w .variant) (w .lanes) ∷ lengthCheck s ∷ fieldChecks (w .variant) s) (turnChecks (w .last) (w .latest) s) (value (turnOf (w .last) s))
+    checked-append (benchCheck (w .variant) (w .lanes) ∷ sizeCheck recordLength s ∷ fieldChecks (w .variant) (decode s)) (turnChecks (w .last) (w .latest) s) (value (turnOf (w .last) s))
 
-same-turn : (xs ys s : List ℕ) (r : Outcome Turn) (b : Bool) → eqb (number s) 0 ≡ b → checked (turnChecks 0 xs s) r ≡ checked (turnChecks 0 ys s) r
-same-turn xs ys s r true e = let n : number s ≡ 0 = eqb-true (number s) 0 e in rw n
+same-turn : (xs ys s : List ℕ) (r : Outcome Turn) (b : Bool) → eqb (decode s .number) 0 ≡ b → checked (turnChecks 0 xs s) r ≡ checked (turnChecks 0 ys s) r
+same-turn xs ys s r true e = let n : decode s .number ≡ 0 = eqb-true (decode s .number) 0 e in rw n
 same-turn xs ys s r false e = rw e
 
 -- while none has counted, what stands for the latest is not looked at
@@ -109,7 +109,7 @@ pub no-latest : (v : ℕ) (lanes : List LaneView) (xs ys s : List ℕ)
     → decision (record { variant = v; lanes = lanes; last = 0; latest = xs }) s ≡ decision (record { variant = v; lanes = lanes; last = 0; latest = ys }) s
 no-latest v lanes xs ys s =
     decision-parts (record { variant = v; lanes = lanes; last = 0; latest = xs }) s
-    ∙ ap (λ (o : Outcome Turn). checked (benchCheck v lanes ∷ lengthCheck s ∷ []) (checked (fieldChecks v s) o)) (same-turn xs ys s (value (turnOf 0 s)) (eqb (number s) 0) refl)
+    ∙ ap (λ (o : Outcome Turn). checked (benchCheck v lanes ∷ sizeCheck recordLength s ∷ []) (checked (fieldChecks v (decode s)) o)) (same-turn xs ys s (value (turnOf 0 s)) (eqb (decode s .number) 0) refl)
     ∙ sym (decision-parts (record { variant = v; lanes = lanes; last = 0; latest = ys }) s)
 
 -- THEOREM: at last = 4,294,967,295 only a repeat is in turn

@@ -3,6 +3,7 @@
 use Prim.Native.Nat.{ℕ}
 use mathlib.Core.List.{List, [], _∷_}
 use Rattle.katan.specs.Checks.{Outcome}
+use Rattle.bench.specs.declared.Reading.{Reading}
 
 -- a record of any bytes and length arrives, or a lane of any number is read
 pub data Call : Type 0 where
@@ -13,7 +14,7 @@ pub data Call : Type 0 where
 pub data Response : Type 0 where
   done : (number total : ℕ) → Response
   again : (number total : ℕ) → Response
-  at : (position registers : ℕ) → Response
+  at : Reading → Response
 
 -- or a refusal's number
 abbrev pub Answer : Type 0

@@ -8,7 +8,7 @@ use lib.ListN.{getD}
 use Rattle.katan.specs.Bit.{AreBytes}
 use Rattle.katan.specs.Checks.{value}
 use Rattle.katan.specs.Sizes.{laneCount}
-use Rattle.record.specs.Fields.{AllSaySame}
+use Rattle.bench_record.specs.Fields.{AllSaySame}
 use Rattle.bench.specs.Machine.{Machine, empty}
 use Rattle.bench.specs.Calls.{Call, Answer, stateAfter, answersTo}
 use Rattle.bench.specs.Checks.{LaneView, View, benchCheck, Turn, repeats, decision}

@@ -7,8 +7,8 @@ use lib.ListN.{length, getD, replicate}
 use Rattle.katan.specs.Machine.{registersAt}
 use Rattle.katan.specs.Checks.{Outcome, value, refused}
 use Rattle.katan.specs.Sizes.{laneCount}
-use Rattle.record.specs.Fields.{number}
-use Rattle.bench.specs.Machine.{Machine, empty, loaded, stepOf, stepAll, totalOf}
+use Rattle.bench_record.specs.Fields.{decode}
+use Rattle.bench.specs.Machine.{Machine, empty, loaded, machineStep, stepAll, totalOf}
 use Rattle.bench.specs.Calls.{Call, arrival, reading, done, again, Answer}
 use Rattle.bench.specs.Checks.{LaneView, emptyLane, loadedLane, View, Turn, counts, repeats, decision, readOutcome}
 
@@ -24,7 +24,7 @@ freshModel = record { machines = replicate laneCount empty; counted = []; total 
 -- a machine's position and registers: for p < q, katan's theorem `one-state` says that they are the one state of document 01
 unfoldable pub machineView : ℕ → Machine → LaneView
 machineView v empty = emptyLane
-machineView v (loaded key block q p) = loadedLane p (registersAt v key q block p)
+machineView v (loaded key block q p) = loadedLane (record { position = record { 0 = p }; registers = registersAt v key q block p })
 
 -- last is how many records have counted so far; a repeat is of the latest of these; where a check looks at a lane, it looks at the machine's
 unfoldable pub modelView : ℕ → Model → View
@@ -32,12 +32,12 @@ modelView v m = record { variant = v; lanes = map (machineView v) (m .machines);
 
 -- a counted record steps the machines of the lanes it names
 unfoldable pub afterCounted : Model → List ℕ → Model
-afterCounted m s = record { machines = stepAll s 0 (m .machines); counted = s ∷ m .counted; total = totalOf s 0 (m .machines) }
+afterCounted m s = record { machines = stepAll (decode s) 0 (m .machines); counted = s ∷ m .counted; total = totalOf (decode s) 0 (m .machines) }
 
 -- and is answered 'done' with its number and total; a repeat, 'again' with the same two; a refused call, its refusal's number
 unfoldable pub arrivalAs : Outcome Turn → Model → List ℕ → Model × Answer
-arrivalAs (value counts) m s = (afterCounted m s, value (done (number s) (totalOf s 0 (m .machines))))
-arrivalAs (value repeats) m s = (m, value (again (number s) (m .total)))
+arrivalAs (value counts) m s = (afterCounted m s, value (done (decode s .number) (totalOf (decode s) 0 (m .machines))))
+arrivalAs (value repeats) m s = (m, value (again (decode s .number) (m .total)))
 arrivalAs (refused k) m s = (m, refused k)
 
 -- a read, the position and registers of that lane's machine
@@ -48,4 +48,4 @@ modelTransition v m (reading i) = (m, readOutcome v (modelView v m .lanes) i)
 -- what counted records, the latest first, make of the empty machine of lane i
 unfoldable pub madeBy : ℕ → List (List ℕ) → Machine
 madeBy i [] = empty
-madeBy i (s ∷ earlier) = stepOf s i (madeBy i earlier)
+madeBy i (s ∷ earlier) = machineStep (decode s) i (madeBy i earlier)

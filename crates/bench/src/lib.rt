@@ -1,9 +1,9 @@
 // The bench of lanes and the link: types, and, in specs/, what an arrival and a read make of them.
+use bench_record::LENGTH;
 use katan::Key;
 use katan::LANES;
 use katan::Refusal;
 use katan::RoundPosition;
-use record::LENGTH;
 
 // What a loaded lane holds: the key, and the registers at its position.
 pub struct Loaded {
@@ -35,26 +35,32 @@ pub struct Link {
 
 // What an arrival answers: number and total, or the first fault found.
 pub enum Reply {
-    Done(u32, u32),
-    Again(u32, u32),
+    Done { number: u32, total: u32 },
+    Again { number: u32, total: u32 },
     Refused(Refusal),
 }
 
 // What an arrival leaves, and answers.
-pub struct Arrival {
+pub struct ArrivalResult {
     pub bench: Bench,
     pub link: Link,
     pub reply: Reply,
 }
 
 // The same where the link is lent.
-pub struct Arrived {
+pub struct LentArrivalResult {
     pub bench: Bench,
     pub reply: Reply,
 }
 
-// What a read answers: position and registers, or the first fault found.
+// What a loaded lane shows.
+pub struct Reading {
+    pub position: RoundPosition,
+    pub registers: u64,
+}
+
+// What a read answers: the lane's reading, or the first fault found.
 pub enum ReadAnswer {
-    At(RoundPosition, u64),
+    At(Reading),
     Refused(Refusal),
 }

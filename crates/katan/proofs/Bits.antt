@@ -1,14 +1,18 @@
--- Bits, and the formulas on bits: bits in, a bit out.
+-- Bits, numbers from their bits, and the formulas on bits: bits in, a bit out.
 -- Assumes nothing.
-use mathlib.Core.Path.{_≡_, refl, sym, ap, _∙_}
-use Prim.Native.Nat.{ℕ, zero, suc, _+_, _-_, _*_, _/_, _%_, _^_, _<_}
-use native.Mathlib.Nat.{mod-lt, zero-div, one-mul}
+use mathlib.Core.Path.{_≡_, refl, sym, ap, ap₂, _∙_}
+use Prim.Native.Nat.{ℕ, zero, suc, _+_, _-_, _*_, _/_, _%_, _^_, _<_, _≤_}
+use native.Mathlib.Nat.{mod-lt, mod-eq-of-lt, zero-div, div-one, div-eq-of-lt, div-add-mod', one-mul, add-zero, lt-of-lt-of-le}
+use native.Mathlib.Numerals.{add-one, one-add}
 use native.Mathlib.Omega.{arith}
-use lib.Pow.{field, mod-mod-pow, shl-exact}
-use lib.Bits.{and-lt, xor-lt, xor-shr, xor-mod, and-shr, and-mod}
+use borrow.Author.Count.{below-more}
+use lib.Arith.{bin-ind}
+use lib.Pow.{pow-pos, pow-add, pow-mono, field, mod-mod-pow, shl-exact, shr-shr, shl-shr, shr-lt, high, low}
+use lib.Bits.{and-lt, xor-lt, xor-shr, xor-mod, and-shr, and-mod, and-block, xor-comm, xor-self, xor-zero-r}
 use lib.Dec.{lit<}
 use Rattle.katan.specs.Bit.{bit, xor, and}
 use Rattle.katan.specs.Clock.{fa, fb, faRest, fbRest}
+use Rattle.katan.specs.inner.FromBits.{fromBits}
 use Rattle.katan.specs.declared.Row.{Row}
 
 -- `1 << w` is 2 ^ w
@@ -43,6 +47,48 @@ bit-mod m l i h =
     let e : m ≡ (j + 1) + i = omega arith in
     ap (λ (y : ℕ). l % 2 ^ y / 2 ^ i % 2) e ∙ ap (λ (y : ℕ). y % 2) (field l (j + 1) i) ∙ mod-mod-pow (l / 2 ^ i) j 1
 
+-- a number of m bits has no others
+pub bit-past : (m x i : ℕ) → x < 2 ^ m → m ≤ i → bit x i ≡ 0
+bit-past m x i h q = ap (λ (y : ℕ). y % 2) (div-eq-of-lt (lt-of-lt-of-le h (pow-mono {i = m} {j = i} q)))
+
+-- a number h above one of m bits: its bits are theirs
+module _ (m h : ℕ) {l : ℕ} (q : l < 2 ^ m) where
+  pub bit-below : (i : ℕ) → i < m → bit (h * 2 ^ m + l) i ≡ bit l i
+  bit-below i p = sym (bit-mod m (h * 2 ^ m + l) i p) ∙ ap (λ (y : ℕ). bit y i) (low h m q)
+
+  pub bit-above : (i : ℕ) → bit (h * 2 ^ m + l) (m + i) ≡ bit h i
+  bit-above i = ap (λ (y : ℕ). y % 2) (sym (shr-shr (h * 2 ^ m + l) m i)) ∙ ap (λ (y : ℕ). bit y i) (high h m q)
+
+  -- one bit above them
+  pub top-lt : h < 2 → h * 2 ^ m + l < 2 ^ (m + 1)
+  top-lt p = top-of h p
+    where
+      top-of : (b : ℕ) → b < 2 → b * 2 ^ m + l < 2 ^ (m + 1)
+      top-of zero p = omega (arith, pow-add 2 m 1, q)
+      top-of (suc zero) p = omega (arith, pow-add 2 m 1, q)
+      top-of (suc (suc b)) p = absurd (omega arith)
+
+  pub bit-top : h < 2 → bit (h * 2 ^ m + l) m ≡ h
+  bit-top p = ap (λ (y : ℕ). y % 2) (high h m q) ∙ mod-eq-of-lt p
+
+-- a number from its bits has as many, and they are its bits
+module _ (f : ℕ → ℕ) where
+  pub from-bits-lt : (n : ℕ) → ((i : ℕ) → i < n → f i < 2) → fromBits f n < 2 ^ n
+  unfolding fromBits
+  from-bits-lt zero h = omega arith
+  from-bits-lt (suc n) h = rw (← add-one n) (top-lt n (f n) (from-bits-lt n (λ i q. h i (omega arith))) (h n (omega arith)))
+
+  pub bit-from-bits : (n : ℕ) → ((i : ℕ) → i < n → f i < 2) → (i : ℕ) → i < n → bit (fromBits f n) i ≡ f i
+  unfolding fromBits
+  bit-from-bits zero h i q = absurd (omega arith)
+  bit-from-bits (suc n) h i q =
+      let g : (j : ℕ) → j < n → f j < 2 = λ j p. h j (omega arith) in
+      let small : fromBits f n < 2 ^ n = from-bits-lt n g in
+      below-more (λ (j : ℕ). bit (fromBits f (suc n)) j ≡ f j) n
+      (λ j p. bit-below n (f n) small j p ∙ bit-from-bits n g j p)
+      (bit-top n (f n) small (h n (omega arith)))
+      i (omega arith)
+
 -- bit j of an xor and of an and
 pub bit-xor : (a b j : ℕ) → bit (xor a b) j ≡ xor (bit a j) (bit b j)
 bit-xor a b j = ap (λ (y : ℕ). y % 2) (xor-shr a b j) ∙ xor-mod (a / 2 ^ j) (b / 2 ^ j) 1
@@ -73,3 +119,69 @@ module _ {A B : Type 0} (x₁ a₁ : A → A → A) (x₂ a₂ : B → B → B) 
 
   pub fb-map : (l : ℕ → A) (kb : A) → h (fb x₁ a₁ v l kb) ≡ fb x₂ a₂ v (λ i. h (l i)) (h kb)
   fb-map l kb = simp (hx, ha)
+
+-- ---- bits of shifted numbers; numbers with the same bits are equal
+
+pub bit-shr : (x s i : ℕ) → bit (x / 2 ^ s) i ≡ bit x (s + i)
+bit-shr x s i = ap (λ (z : ℕ). z % 2) (shr-shr x s i)
+
+pub bit-shl : (x s i : ℕ) → bit (x * 2 ^ s) (s + i) ≡ bit x i
+bit-shl x s i = sym (bit-shr (x * 2 ^ s) s i) ∙ ap (λ (z : ℕ). bit z i) (shl-shr x s)
+
+pub and-shl : (x y s : ℕ) → and x y * 2 ^ s ≡ and (x * 2 ^ s) (y * 2 ^ s)
+and-shl x y s = sym (simp add-zero at (and-block s x y 0 0 (pow-pos s) (pow-pos s)))
+
+pub bit-lowest : (x : ℕ) → bit x 0 ≡ x % 2
+bit-lowest x = ap (λ (z : ℕ). z % 2) (div-one x)
+
+pub bit-suc : (x i : ℕ) → bit x (suc i) ≡ bit (x / 2) i
+bit-suc x i = ap (bit x) (sym (one-add i)) ∙ sym (bit-shr x 1 i)
+
+-- numbers below 2 ^ w with the same bits are equal
+pub bits-equal : (w x y : ℕ) → x < 2 ^ w → y < 2 ^ w → ((i : ℕ) → i < w → bit x i ≡ bit y i) → x ≡ y
+bits-equal zero x y hx hy same = omega arith
+bits-equal (suc w) x y hx hy same =
+    let low : x % 2 ≡ y % 2 = sym (bit-lowest x) ∙ same 0 (omega arith) ∙ bit-lowest y in
+    let rest : x / 2 ≡ y / 2 =
+    bits-equal w (x / 2) (y / 2) (shr-lt w 1 (rw add-one hx)) (shr-lt w 1 (rw add-one hy))
+    (λ i h. sym (bit-suc x i) ∙ same (suc i) (omega arith) ∙ bit-suc y i) in
+    sym (div-add-mod' x 2) ∙ ap₂ (λ (q r : ℕ). q * 2 + r) rest low ∙ div-add-mod' y 2
+
+-- ---- xor of any numbers
+
+bit-assoc : (a b c : ℕ) → a < 2 → b < 2 → c < 2 → xor (xor a b) c ≡ xor a (xor b c)
+bit-assoc zero b c p q r = refl
+bit-assoc (suc zero) zero c p q r = refl
+bit-assoc (suc zero) (suc zero) zero p q r = refl
+bit-assoc (suc zero) (suc zero) (suc zero) p q r = refl
+bit-assoc (suc zero) (suc zero) (suc (suc c)) p q r = absurd (omega arith)
+bit-assoc (suc zero) (suc (suc b)) c p q r = absurd (omega arith)
+bit-assoc (suc (suc a)) b c p q r = absurd (omega arith)
+
+-- an xor by its lowest bit and the others
+halves : (a b : ℕ) → xor a b ≡ xor (a / 2) (b / 2) * 2 + xor (a % 2) (b % 2)
+halves a b = sym (div-add-mod' (xor a b) 2) ∙ ap₂ (λ (q r : ℕ). q * 2 + r) (xor-shr a b 1) (xor-mod a b 1)
+
+pub xor-assoc : (x y z : ℕ) → xor (xor x y) z ≡ xor x (xor y z)
+xor-assoc =
+    bin-ind (λ (x : ℕ). (y z : ℕ) → xor (xor x y) z ≡ xor x (xor y z)) (λ y z. refl)
+    (λ x ih y z.
+    halves (xor x y) z
+    ∙ ap₂ (λ (q r : ℕ). q * 2 + r)
+    (ap (λ (t : ℕ). xor t (z / 2)) (xor-shr x y 1) ∙ ih (y / 2) (z / 2) ∙ ap (xor (x / 2)) (sym (xor-shr y z 1)))
+    (ap (λ (t : ℕ). xor t (z % 2)) (xor-mod x y 1) ∙ bit-assoc (x % 2) (y % 2) (z % 2) (omega arith) (omega arith) (omega arith) ∙ ap (xor (x % 2)) (sym (xor-mod y z 1)))
+    ∙ sym (halves x (xor y z)))
+
+-- the same xor again undoes it
+pub xor-undone : (x y : ℕ) → xor (xor x y) y ≡ x
+xor-undone x y = xor-assoc x y y ∙ ap (xor x) (xor-self y) ∙ xor-zero-r x
+
+pub xor-crossed : (a u b v : ℕ) → xor (xor a u) (xor b v) ≡ xor (xor a b) (xor u v)
+xor-crossed a u b v =
+    xor-assoc a u (xor b v)
+    ∙ ap (λ (t : ℕ). xor a t) (sym (xor-assoc u b v) ∙ ap (λ (t : ℕ). xor t v) (xor-comm u b) ∙ xor-assoc b u v)
+    ∙ sym (xor-assoc a b (xor u v))
+
+pub xor-through : (a u b : ℕ) → xor (xor a u) (xor u b) ≡ xor a b
+xor-through a u b =
+    xor-assoc a u (xor u b) ∙ ap (xor a) (sym (xor-assoc u u b) ∙ ap (λ (t : ℕ). xor t b) (xor-self u))

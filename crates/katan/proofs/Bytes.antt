@@ -2,14 +2,14 @@
 -- Assumes nothing.
 use mathlib.Core.Path.{_≡_, refl, sym, ap, _∙_}
 use mathlib.Core.List.{List, [], _∷_}
-use Prim.Native.Nat.{ℕ, zero, suc, _+_, _*_, _/_, _%_, _^_, _<_}
-use native.Mathlib.Nat.{zero-div, zero-add, zero-mul, suc-add, mul-assoc}
+use Prim.Native.Nat.{ℕ, zero, suc, _+_, _*_, _^_, _<_}
+use native.Mathlib.Nat.{zero-add, zero-mul, suc-add, mul-assoc}
 use native.Mathlib.Omega.{arith}
 use lib.ListN.{getD, take, drop}
 use lib.Seq.{take-nil}
-use lib.Pow.{pow-add, high, low, shr-shr}
+use lib.Pow.{pow-add}
 use Rattle.katan.specs.Bit.{bit, numberIn, AreBytes}
-use Rattle.katan.proofs.Bits.{bit-mod}
+use Rattle.katan.proofs.Bits.{bit-zero, bit-below, bit-above}
 
 -- the number in n + 1 bytes from i on: the byte at i, and the number in the n after it
 pub number-from : (n i : ℕ) (xs : List ℕ) → numberIn (take (suc n) (drop i xs)) ≡ numberIn (take n (drop (suc i) xs)) * 2 ^ 8 + getD xs i 0
@@ -31,14 +31,12 @@ number-split (suc m) n (x ∷ xs) =
 
 -- bit 8 j + b of the number is bit b of byte j
 pub number-bit : (xs : List ℕ) → AreBytes xs → (j b : ℕ) → b < 8 → bit (numberIn xs) (8 * j + b) ≡ bit (getD xs j 0) b
-number-bit [] h j b q = ap (λ (y : ℕ). y % 2) (zero-div (2 ^ (8 * j + b)) ∙ sym (zero-div (2 ^ b)))
+number-bit [] h j b q = bit-zero (8 * j + b) ∙ sym (bit-zero b)
 number-bit (x ∷ xs) h zero b q =
     let e : 8 * 0 + b ≡ b = omega arith in
-    ap (bit (numberIn xs * 2 ^ 8 + x)) e
-    ∙ sym (bit-mod 8 (numberIn xs * 2 ^ 8 + x) b q) ∙ ap (λ (y : ℕ). bit y b) (low (numberIn xs) 8 (h 0))
+    ap (bit (numberIn xs * 2 ^ 8 + x)) e ∙ bit-below 8 (numberIn xs) (h 0) b q
 number-bit (x ∷ xs) h (suc j) b q =
     let e : 8 * suc j + b ≡ 8 + (8 * j + b) = omega arith in
     ap (bit (numberIn xs * 2 ^ 8 + x)) e
-    ∙ ap (λ (y : ℕ). y % 2) (sym (shr-shr (numberIn xs * 2 ^ 8 + x) 8 (8 * j + b)))
-    ∙ ap (λ (y : ℕ). bit y (8 * j + b)) (high (numberIn xs) 8 (h 0))
+    ∙ bit-above 8 (numberIn xs) (h 0) (8 * j + b)
     ∙ number-bit xs (λ i. h (suc i)) j b q

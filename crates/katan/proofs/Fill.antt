@@ -8,7 +8,7 @@ use borrow.Author.Count.{below-more}
 use lib.ListN.{length, getD, set}
 use lib.Seq.{ext-getD, getD-set-same, getD-set-other}
 use Rattle.katan.specs.Bit.{tabulate}
-use Rattle.katan.specs.Within.{Entries}
+use Rattle.katan.specs.inner.Within.{Entries}
 use Rattle.katan.proofs.Tables.{entry, length-tabulate}
 
 pub filled : (f : ℕ → ℕ) (xs : List ℕ) (i x : ℕ) → i < length xs → Entries f i xs → x ≡ f i → Entries f (i + 1) (set xs i x)

@@ -3,7 +3,7 @@
 use mathlib.Core.Path.{_≡_, refl, sym, ap, ap₂, _∙_}
 use mathlib.Core.Bool.{Bool, true, false}
 use mathlib.Core.List.{List, [], _∷_, _++_}
-use Prim.Native.Nat.{ℕ, zero, suc, _+_, _-_, _*_, _<_, _≤_, _/_, _%_}
+use Prim.Native.Nat.{ℕ, zero, suc, _+_, _-_, _*_, _<_, _≤_}
 use native.Mathlib.Nat.{add-zero, add-suc}
 use native.Mathlib.Omega.{arith}
 use borrow.Author.Tests.{le-leb, lt-leb}
@@ -11,10 +11,10 @@ use lib.ListN.{length, getD, length-append, List·getD-append}
 use lib.Seq.{getD-at}
 use Rattle.katan.specs.Bit.{bit, xor, pick, tabulate}
 use Rattle.katan.specs.Counter.{counter, irOf, rounds}
-use Rattle.katan.specs.Key.{keyLength, kaNumber, kbNumber, keyBitNumber, kRule, kList, roundKeys, keyBits, k}
-use Rattle.katan.specs.Variant.{isKatan}
+use Rattle.katan.specs.Key.{keyLength, keyBitNumber, kRule, kList, roundKeys, keyBits, k}
+use Rattle.katan.specs.Variant.{isKatan, lastKatan}
 use Rattle.katan.specs.Clock.{inputOf}
-use Rattle.katan.specs.Within.{Bits}
+use Rattle.katan.specs.inner.Within.{Bits}
 use Rattle.katan.specs.declared.RoundInput.{RoundInput}
 use Rattle.katan.proofs.Bits.{bit-lt, bit-zero, xor-bit}
 use Rattle.katan.proofs.Tables.{entry, length-tabulate, ka-number, kb-number, number-below}
@@ -133,16 +133,16 @@ chosen c b e ks key i j = rw e
 abbrev input : ℕ → ℕ → ℕ → RoundInput
 input r x y = record { ir = irOf (counter r); ka = x; kb = y }
 
-pub katan-input : (v key r : ℕ) → v ≤ 3 → inputOf v key r ≡ record { ir = irOf (counter r); ka = k key (2 * r); kb = k key (2 * r + 1) }
+pub katan-input : (v key r : ℕ) → v ≤ lastKatan → inputOf v key r ≡ record { ir = irOf (counter r); ka = k key (2 * r); kb = k key (2 * r + 1) }
 unfolding inputOf k
-katan-input v key r h = ap₂ (input r) (chosen (isKatan v) true (le-leb v 3 h) _ _ _ _) (chosen (isKatan v) true (le-leb v 3 h) _ _ _ _)
+katan-input v key r h = ap₂ (input r) (chosen (isKatan v) true (le-leb v lastKatan h) _ _ _ _) (chosen (isKatan v) true (le-leb v lastKatan h) _ _ _ _)
 
-pub ktantan-input : (v key r : ℕ) → 3 < v → r < rounds
+pub ktantan-input : (v key r : ℕ) → lastKatan < v → r < rounds
     → inputOf v key r ≡ record { ir = irOf (counter r); ka = bit key (keyBitNumber (2 * r)); kb = bit key (keyBitNumber (2 * r + 1)) }
 unfolding inputOf
 ktantan-input v key r h q =
     let at : (i j : ℕ) → keyBitNumber i ≡ j → i < 2 * rounds → getD (keyBits key) j 0 ≡ bit key (keyBitNumber i)
     = λ i j e l. ap (λ (y : ℕ). getD (keyBits key) y 0) (sym e) ∙ entry (bit key) keyLength (keyBitNumber i) 0 (number-below i l) in
     ap₂ (input r)
-    (chosen (isKatan v) false (lt-leb v 3 h) _ _ _ _ ∙ at (2 * r) _ (ka-number r) (omega arith))
-    (chosen (isKatan v) false (lt-leb v 3 h) _ _ _ _ ∙ at (2 * r + 1) _ (kb-number r) (omega arith))
+    (chosen (isKatan v) false (lt-leb v lastKatan h) _ _ _ _ ∙ at (2 * r) _ (ka-number r) (omega arith))
+    (chosen (isKatan v) false (lt-leb v lastKatan h) _ _ _ _ ∙ at (2 * r + 1) _ (kb-number r) (omega arith))

@@ -3,8 +3,11 @@ pub mod Tables
 pub mod Fill
 pub mod Bytes
 pub mod Numbers
+pub mod Booleans
+pub mod Checked
 pub mod Variants
 pub mod Keys
+pub mod KeyNumbers
 pub mod Shift
 pub mod Undo
 pub mod Positions

@@ -2,18 +2,17 @@
 -- Assumes nothing.
 use mathlib.Core.Path.{_≡_, refl, sym, ap, ap₂, _∙_}
 use mathlib.Core.Bool.{Bool, true, false}
-use Prim.Native.Nat.{ℕ, zero, suc, _+_, _-_, _*_, _/_, _%_, _^_, _<_, _≤_}
+use Prim.Native.Nat.{ℕ, _+_, _-_, _^_, _<_, _≤_}
 use native.Mathlib.Nat.{mul-le-mul-right, mod-lt, div-add-mod', zero-add, sub-self, le-refl}
 use native.Mathlib.Omega.{arith}
 use borrow.Author.Tests.{leb-true, leb-false, le-leb, lt-leb}
 use lib.Dec.{leb}
 use lib.Pow.{pow-pos, pow-add, high, low, shr-lt}
-use Rattle.katan.specs.Bit.{pick}
 use Rattle.katan.specs.Counter.{rounds}
-use Rattle.katan.specs.Clock.{round, run, unrun, block, registers, inputOf}
+use Rattle.katan.specs.Clock.{run, unrun, block, registers, inputOf}
 use Rattle.katan.specs.Variant.{rowOf, widthOf}
 use Rattle.katan.specs.Machine.{forward, back, registersAt, encryption, decryption, OneState}
-use Rattle.katan.specs.Within.{Sound, Fits}
+use Rattle.katan.specs.inner.Within.{Sound, RegistersFit}
 use Rattle.katan.specs.declared.Row.{Row}
 use Rattle.katan.specs.declared.Registers.{Registers}
 use Rattle.katan.proofs.Keys.{input-bits}
@@ -22,10 +21,10 @@ use Rattle.katan.proofs.Undo.{sound, run-fits, unrun-fits, run-unrun, u
 -- ---- a block and its registers
 
 module _ (v : Row) (t : Sound v) where
-  pub registers-fit : (x : ℕ) → x < 2 ^ (v .n) → Fits v (registers v x)
+  pub registers-fit : (x : ℕ) → x < 2 ^ (v .n) → RegistersFit v (registers v x)
   registers-fit x h = record { l1-fits = shr-lt (v .len1) (v .len2) (rw (t .both) h); l2-fits = mod-lt x (pow-pos (v .len2)) }
 
-  pub block-fits : (s : Registers) → Fits v s → block v s < 2 ^ (v .n)
+  pub block-fits : (s : Registers) → RegistersFit v s → block v s < 2 ^ (v .n)
   block-fits s f = rw (← t .both) (omega (arith, mul-le-mul-right (2 ^ (v .len2)) (f .l1-fits), pow-add 2 (v .len1) (v .len2), f .l2-fits))
 
   block-registers : (x : ℕ) → block v (registers v x) ≡ x
@@ -34,7 +33,7 @@ module _ (v : Row) (t : Sound v) where
   pair : ℕ → ℕ → Registers
   pair x y = record { l1 = x; l2 = y }
 
-  registers-block : (s : Registers) → Fits v s → registers v (block v s) ≡ s
+  registers-block : (s : Registers) → RegistersFit v s → registers v (block v s) ≡ s
   unfolding pair
   registers-block s f = ap₂ pair (high (s .l1) (v .len2) (f .l2-fits)) (low (s .l1) (v .len2) (f .l2-fits))
 
@@ -42,13 +41,13 @@ module _ (v : Row) (t : Sound v) where
 
 module _ (v key : ℕ) where
   module _ (p c x : ℕ) (h : x < 2 ^ widthOf v) where
-    start : Fits (rowOf v) (registers (rowOf v) x)
+    start : RegistersFit (rowOf v) (registers (rowOf v) x)
     start = registers-fit (rowOf v) (sound v) x h
 
-    there : Fits (rowOf v) (run (rowOf v) (inputOf v key) p c (registers (rowOf v) x))
+    there : RegistersFit (rowOf v) (run (rowOf v) (inputOf v key) p c (registers (rowOf v) x))
     there = run-fits (rowOf v) (sound v) (inputOf v key) (input-bits v key) p c (registers (rowOf v) x) start
 
-    home : Fits (rowOf v) (unrun (rowOf v) (inputOf v key) p c (registers (rowOf v) x))
+    home : RegistersFit (rowOf v) (unrun (rowOf v) (inputOf v key) p c (registers (rowOf v) x))
     home = unrun-fits (rowOf v) (sound v) (inputOf v key) (input-bits v key) p c (registers (rowOf v) x) start
 
     pub forward-in : forward v key p c x < 2 ^ widthOf v

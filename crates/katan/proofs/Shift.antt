@@ -1,38 +1,38 @@
 -- A register of m + 1 bits, whose highest is bit m: what a shift in and a shift out do to its bits.
 -- Assumes nothing.
 use mathlib.Core.Path.{_≡_, sym, ap, _∙_}
-use Prim.Native.Nat.{ℕ, zero, suc, _+_, _*_, _/_, _%_, _^_, _<_}
-use native.Mathlib.Nat.{mod-eq-of-lt, div-one, mul-assoc}
+use Prim.Native.Nat.{ℕ, suc, _+_, _*_, _/_, _%_, _^_, _<_}
+use native.Mathlib.Nat.{mul-assoc}
 use native.Mathlib.Omega.{arith}
 use lib.Pow.{pow-add, field, high, low, mod-mod-pow, recompose, shr-lt}
 use Rattle.katan.specs.Bit.{bit, xor}
 use Rattle.katan.specs.Clock.{shiftIn, shiftOut}
-use Rattle.katan.proofs.Bits.{bit-lt, xor-bit, bit-mod, xor-twice}
-
-lowest : (x : ℕ) → bit x 0 ≡ x % 2
-lowest x = ap (λ (y : ℕ). y % 2) (div-one x)
+use Rattle.katan.proofs.Bits.{bit-lt, xor-bit, bit-mod, bit-lowest, bit-suc, bit-below, bit-top, top-lt, xor-twice}
 
 pub in-lowest : (m l b : ℕ) → b < 2 → bit (shiftIn (m + 1) l b) 0 ≡ b
-in-lowest m l b h = lowest (shiftIn (m + 1) l b) ∙ mod-mod-pow (l * 2 + b) m 1 ∙ low l 1 h
+in-lowest m l b h = bit-lowest (shiftIn (m + 1) l b) ∙ mod-mod-pow (l * 2 + b) m 1 ∙ low l 1 h
+
+-- the other bits move up
+pub in-higher : (m l b i : ℕ) → b < 2 → i < m → bit (shiftIn (m + 1) l b) (suc i) ≡ bit l i
+in-higher m l b i h q =
+    bit-mod (m + 1) (l * 2 + b) (suc i) (omega arith) ∙ bit-suc (l * 2 + b) i ∙ ap (λ (y : ℕ). bit y i) (high l 1 h)
 
 in-rest : (m l b : ℕ) → b < 2 → shiftIn (m + 1) l b / 2 ≡ l % 2 ^ m
 in-rest m l b h = field (l * 2 + b) m 1 ∙ ap (λ (y : ℕ). y % 2 ^ m) (high l 1 h)
 
 out-highest : (m l t : ℕ) → l < 2 ^ (m + 1) → t < 2 → bit (shiftOut m l t) m ≡ t
-out-highest m l t h q = ap (λ (y : ℕ). y % 2) (high t m (shr-lt m 1 h)) ∙ mod-eq-of-lt q
+out-highest m l t h q = bit-top m t (shr-lt m 1 h) q
 
 out-rest : (m l t i : ℕ) → l < 2 ^ (m + 1) → i < m → bit (shiftOut m l t) i ≡ bit (l / 2) i
-out-rest m l t i h q = sym (bit-mod m (shiftOut m l t) i q) ∙ ap (λ (y : ℕ). bit y i) (low t m (shr-lt m 1 h))
+out-rest m l t i h q = bit-below m t (shr-lt m 1 h) i q
 
 pub out-lt : (m l t : ℕ) → l < 2 ^ (m + 1) → t < 2 → shiftOut m l t < 2 ^ (m + 1)
-out-lt m l zero h q = omega (arith, pow-add 2 m 1, shr-lt m 1 h)
-out-lt m l (suc zero) h q = omega (arith, pow-add 2 m 1, shr-lt m 1 h)
-out-lt m l (suc (suc t)) h q = absurd (omega arith)
+out-lt m l t h q = top-lt m t (shr-lt m 1 h) q
 
 pub in-out : (m l t : ℕ) → l < 2 ^ (m + 1) → shiftIn (m + 1) (shiftOut m l t) (bit l 0) ≡ l
 in-out m l t h =
     let e : t * 2 ^ (m + 1) ≡ t * 2 ^ m * 2 = ap (λ (y : ℕ). t * y) (pow-add 2 m 1) ∙ sym (mul-assoc t (2 ^ m) 2) in
-    let s : shiftOut m l t * 2 + bit l 0 ≡ t * 2 ^ (m + 1) + l = omega (arith, e, lowest l) in
+    let s : shiftOut m l t * 2 + bit l 0 ≡ t * 2 ^ (m + 1) + l = omega (arith, e, bit-lowest l) in
     ap (λ (y : ℕ). y % 2 ^ (m + 1)) s ∙ low t (m + 1) h
 
 -- the formula of one register is its highest bit xor a rest that its bits below m make

@@ -1,15 +1,15 @@
 -- The starred bench cases hold: one test that antt computes over the whole table.
 -- Assumes nothing.
-use mathlib.Core.Path.{_≡_, refl, sym, ap, ap₂, subst, _∙_}
-use mathlib.Core.Bool.{Bool, true, false}
+use mathlib.Core.Path.{_≡_, refl, ap, ap₂, _∙_}
+use mathlib.Core.Bool.{Bool, true}
 use mathlib.Core.List.{List, [], _∷_}
-use Prim.Native.Nat.{ℕ, zero, suc, _+_, _-_, _*_, _^_, _≤_, _<_, zero-le}
+use Prim.Native.Nat.{ℕ, zero, suc, _+_, _-_, _*_, _^_, zero-le}
 use native.Mathlib.Nat.{zero-mod, zero-div, zero-mul}
 use native.Mathlib.Omega.{arith}
 use lib.Dec.{T, eqb, eqb→eq, leb, ltb, leb→le, ltb→lt}
 use Rattle.katan.specs.Bit.{xor}
-use Rattle.katan.specs.Counter.{tick, counter, irOf, rounds}
-use Rattle.katan.specs.Key.{k, keyBits, keyLength, roundKeys, keyBitNumber}
+use Rattle.katan.specs.Counter.{counter, irOf, rounds}
+use Rattle.katan.specs.Key.{k, keyLength, keyBitNumber}
 use Rattle.katan.specs.Variant.{rowOf}
 use Rattle.katan.specs.Clock.{clock, clocks, run, round, block, registers, inputOf}
 use Rattle.katan.specs.Machine.{forward, registersAt}

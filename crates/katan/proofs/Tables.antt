@@ -10,7 +10,7 @@ use lib.Bits.{xor-lt}
 use lib.Dec.{T, eqb, ltb, ltb→lt}
 use lib.ListN.{length, getD}
 use Rattle.katan.specs.Bit.{pick, tabulate}
-use Rattle.katan.specs.Counter.{tick, counter}
+use Rattle.katan.specs.Counter.{tick, counter, rounds}
 use Rattle.katan.specs.Key.{keyLength, kaNumber, kbNumber, keyBitNumber}
 use Rattle.katan.proofs.Bits.{bit-lt}
 
@@ -118,7 +118,7 @@ picked-below : (c : Bool) (x y : ℕ) → x < keyLength → y < keyLength → pi
 picked-below true x y p q = p
 picked-below false x y p q = q
 
-pub number-below : (i : ℕ) → i < 508 → keyBitNumber i < keyLength
+pub number-below : (i : ℕ) → i < 2 * rounds → keyBitNumber i < keyLength
 number-below i h =
     let b = below-at (counter (i / 2)) (counter-below (i / 2)) in
     picked-below (eqb (i % 2) 0) (kaNumber (counter (i / 2))) (kbNumber (counter (i / 2))) (b .0) (b .1)

@@ -1,15 +1,15 @@
 -- The way back undoes clocks, rounds and runs, and they undo it, for every row of the table.
 -- Assumes nothing.
 use mathlib.Core.Path.{_≡_, refl, sym, ap, ap₂, _∙_}
-use Prim.Native.Nat.{ℕ, zero, suc, _+_, _-_, _*_, _/_, _%_, _^_, _<_, _≤_}
-use native.Mathlib.Nat.{mod-lt, add-comm, add-zero, add-suc, add-assoc, le-of-suc-le-suc}
+use Prim.Native.Nat.{ℕ, zero, suc, _+_, _-_, _*_, _/_, _^_, _<_}
+use native.Mathlib.Nat.{mod-lt, add-comm, add-zero, add-suc, add-assoc}
 use native.Mathlib.Omega.{arith}
 use lib.Pow.{pow-pos}
 use lib.ListN.{getD}
 use Rattle.katan.specs.Bit.{bit, xor, and}
-use Rattle.katan.specs.Clock.{fa, fb, faRest, fbRest, shiftIn, shiftOut, clock, unclock, clocks, unclocks, round, unround, run, unrun}
+use Rattle.katan.specs.Clock.{fa, fb, faRest, fbRest, shiftIn, clock, unclock, clocks, unclocks, round, unround, run, unrun}
 use Rattle.katan.specs.Variant.{row32, rows, rowOf}
-use Rattle.katan.specs.Within.{Sound, Bits, Fits}
+use Rattle.katan.specs.inner.Within.{Sound, Bits, RegistersFit}
 use Rattle.katan.specs.declared.Row.{Row}
 use Rattle.katan.specs.declared.Registers.{Registers}
 use Rattle.katan.specs.declared.RoundInput.{RoundInput}
@@ -44,7 +44,7 @@ module _ (v : Row) (t : Sound v) where
 abbrev pair : ℕ → ℕ → Registers
 pair x y = record { l1 = x; l2 = y }
 
-module _ (v : Row) (t : Sound v) (u : RoundInput) (b : Bits u) (s : Registers) (f : Fits v s) where
+module _ (v : Row) (t : Sound v) (u : RoundInput) (b : Bits u) (s : Registers) (f : RegistersFit v s) where
   pub l1-in : s .l1 < 2 ^ (v .x1 + 1)
   l1-in = rw (t .top1) (f .l1-fits)
 
@@ -71,14 +71,14 @@ module _ (v : Row) (t : Sound v) (u : RoundInput) (b : Bits u) (s : Registers) (
       (ap (shiftIn (v .y1 + 1) (unclock v u s .l2)) (formula-out (v .x1) (λ l. faRest xor and v l (u .ir) (u .ka)) (λ p q h. fa-rest-same v t p q (u .ir) (u .ka) h) (λ l. fa-rest-bit v l (b .ir-bit) (b .ka-bit)) (s .l1) (bit (s .l2) 0) l1-in (bit-lt (s .l2) 0))
       ∙ in-out (v .y1) (s .l2) _ l2-in))
 
-  pub unclock-fits : Fits v (unclock v u s)
+  pub unclock-fits : RegistersFit v (unclock v u s)
   unclock-fits =
       record {
         l1-fits = rw (← t .top1) (out-lt (v .x1) (s .l1) _ l1-in (xor-bit (bit-lt (s .l2) 0) (fa-rest-bit v (s .l1 / 2) (b .ir-bit) (b .ka-bit))));
         l2-fits = rw (← t .top2) (out-lt (v .y1) (s .l2) _ l2-in (xor-bit (bit-lt (s .l1) 0) (fb-rest-bit v (s .l2 / 2) (b .kb-bit))));
       }
 
-pub clock-fits : (v : Row) (u : RoundInput) (s : Registers) → Fits v (clock v u s)
+pub clock-fits : (v : Row) (u : RoundInput) (s : Registers) → RegistersFit v (clock v u s)
 clock-fits v u s =
     record {
       l1-fits = mod-lt (s .l1 * 2 + fb xor and v (bit (s .l2)) (u .kb)) (pow-pos (v .len1));
@@ -89,39 +89,39 @@ clock-fits v u s =
 
 module _ (v : Row) (t : Sound v) where
   module _ (u : RoundInput) (b : Bits u) where
-    pub clocks-fit : (c : ℕ) (s : Registers) → Fits v s → Fits v (clocks v u c s)
+    pub clocks-fit : (c : ℕ) (s : Registers) → RegistersFit v s → RegistersFit v (clocks v u c s)
     clocks-fit zero s f = f
     clocks-fit (suc c) s f = clock-fits v u (clocks v u c s)
 
-    pub unclocks-fit : (c : ℕ) (s : Registers) → Fits v s → Fits v (unclocks v u c s)
+    pub unclocks-fit : (c : ℕ) (s : Registers) → RegistersFit v s → RegistersFit v (unclocks v u c s)
     unclocks-fit zero s f = f
     unclocks-fit (suc c) s f = unclocks-fit c (unclock v u s) (unclock-fits v t u b s f)
 
-    unclocks-clocks : (c : ℕ) (s : Registers) → Fits v s → unclocks v u c (clocks v u c s) ≡ s
+    unclocks-clocks : (c : ℕ) (s : Registers) → RegistersFit v s → unclocks v u c (clocks v u c s) ≡ s
     unclocks-clocks zero s f = refl
     unclocks-clocks (suc c) s f =
         ap (unclocks v u c) (unclock-clock v t u b (clocks v u c s) (clocks-fit c s f)) ∙ unclocks-clocks c s f
 
-    clocks-unclocks : (c : ℕ) (s : Registers) → Fits v s → clocks v u c (unclocks v u c s) ≡ s
+    clocks-unclocks : (c : ℕ) (s : Registers) → RegistersFit v s → clocks v u c (unclocks v u c s) ≡ s
     clocks-unclocks zero s f = refl
     clocks-unclocks (suc c) s f =
         ap (clock v u) (clocks-unclocks c (unclock v u s) (unclock-fits v t u b s f)) ∙ clock-unclock v t u b s f
 
   module _ (u : ℕ → RoundInput) (b : (r : ℕ) → Bits (u r)) (p : ℕ) where
-    pub run-fits : (c : ℕ) (s : Registers) → Fits v s → Fits v (run v u p c s)
+    pub run-fits : (c : ℕ) (s : Registers) → RegistersFit v s → RegistersFit v (run v u p c s)
     run-fits zero s f = f
     run-fits (suc c) s f = clocks-fit (u (p + c)) (b (p + c)) (v .clocks) (run v u p c s) (run-fits c s f)
 
-    pub unrun-fits : (c : ℕ) (s : Registers) → Fits v s → Fits v (unrun v u p c s)
+    pub unrun-fits : (c : ℕ) (s : Registers) → RegistersFit v s → RegistersFit v (unrun v u p c s)
     unrun-fits zero s f = f
     unrun-fits (suc c) s f = unrun-fits c (unround v (u (p + c)) s) (unclocks-fit (u (p + c)) (b (p + c)) (v .clocks) s f)
 
-    pub unrun-run : (c : ℕ) (s : Registers) → Fits v s → unrun v u p c (run v u p c s) ≡ s
+    pub unrun-run : (c : ℕ) (s : Registers) → RegistersFit v s → unrun v u p c (run v u p c s) ≡ s
     unrun-run zero s f = refl
     unrun-run (suc c) s f =
         ap (unrun v u p c) (unclocks-clocks (u (p + c)) (b (p + c)) (v .clocks) (run v u p c s) (run-fits c s f)) ∙ unrun-run c s f
 
-    pub run-unrun : (c : ℕ) (s : Registers) → Fits v s → run v u p c (unrun v u p c s) ≡ s
+    pub run-unrun : (c : ℕ) (s : Registers) → RegistersFit v s → run v u p c (unrun v u p c s) ≡ s
     run-unrun zero s f = refl
     run-unrun (suc c) s f =
         ap (round v (u (p + c))) (run-unrun c (unround v (u (p + c)) s) (unclocks-fit (u (p + c)) (b (p + c)) (v .clocks) s f))
@@ -141,3 +141,14 @@ module _ (v : Row) (u : ℕ → RoundInput) (p c : ℕ) where
       ap (λ (n : ℕ). unrun v u p n s) (add-suc c d)
       ∙ ap (λ (n : ℕ). unrun v u p (c + d) (unround v (u n) s)) (sym (add-assoc p c d))
       ∙ unrun-add d (unround v (u (p + c + d)) s)
+
+-- a run depends on its inputs only at its rounds
+module _ (v : Row) (u w : ℕ → RoundInput) (p : ℕ) where
+  pub run-same : (c : ℕ) (s : Registers) → ((i : ℕ) → i < c → u (p + i) ≡ w (p + i)) → run v u p c s ≡ run v w p c s
+  run-same zero s h = refl
+  run-same (suc c) s h = ap₂ (round v) (h c (omega arith)) (run-same c s (λ i q. h i (omega arith)))
+
+  pub unrun-same : (c : ℕ) (s : Registers) → ((i : ℕ) → i < c → u (p + i) ≡ w (p + i)) → unrun v u p c s ≡ unrun v w p c s
+  unrun-same zero s h = refl
+  unrun-same (suc c) s h =
+      ap (λ (x : RoundInput). unrun v u p c (unround v x s)) (h c (omega arith)) ∙ unrun-same c (unround v (w (p + c)) s) (λ i q. h i (omega arith))

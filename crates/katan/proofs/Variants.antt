@@ -1,32 +1,22 @@
--- Check 1 of a variant number, the row that goes with it, and the first fault found.
+-- Check 1 of a variant number, and the row that goes with it.
 -- Assumes nothing.
 use mathlib.Core.Path.{_≡_, refl, sym, ap, _∙_}
 use mathlib.Core.Bool.{Bool, true, false}
-use mathlib.Core.List.{List, [], _∷_}
+use mathlib.Core.List.{[]}
 use Prim.Native.Nat.{ℕ, zero, suc, _-_, _<_, _≤_}
 use native.Mathlib.Omega.{arith}
-use borrow.Author.Tests.{ltb-false, ltb-true, leb-true, lt-ltb, le-leb}
+use borrow.Author.Tests.{ltb-false, ltb-true, leb-true, lt-ltb, le-ltb, le-leb}
 use lib.Dec.{leb, ltb}
 use lib.ListN.{List·getD-eq-default}
 use Rattle.katan.specs.Bit.{pick}
 use Rattle.katan.specs.Variant.{row32, rows, rowOf}
-use Rattle.katan.specs.Checks.{numberOf, Outcome, value, refused, Check, checked, variantCheck}
+use Rattle.katan.specs.Checks.{numberOf, value, refused, variantCheck}
 use Rattle.katan.specs.Rows.{rowOutcome, rowAnswer}
 use Rattle.katan.specs.declared.Row.{Row}
 use Rattle.katan.specs.declared.Refusal.{Refusal}
 use Rattle.katan.specs.declared.RowAnswer.{RowAnswer}
 use Rattle.katan.specs.declared.RowAnswer.the-variants.{Found, Refused}
-
--- ---- the first fault found
-
-module _ {A : Type 0} (c : Check) (cs : List Check) (r : Outcome A) where
-  pub fault-first : c .fault ≡ true → checked (c ∷ cs) r ≡ refused (c .number)
-  fault-first e = ap (λ (b : Bool). pick b (refused (c .number)) (checked cs r)) e
-
-  pub fault-later : c .fault ≡ false → checked (c ∷ cs) r ≡ checked cs r
-  fault-later e = ap (λ (b : Bool). pick b (refused (c .number)) (checked cs r)) e
-
--- ---- check 1 of a variant number
+use Rattle.katan.proofs.Checked.{fault-first}
 
 no-variant : (v : ℕ) → (v ≡ 1 → ⊥) → (v ≡ 2 → ⊥) → (v ≡ 3 → ⊥) → (v ≡ 4 → ⊥) → (v ≡ 5 → ⊥) → (v ≡ 6 → ⊥) → variantCheck v .fault ≡ true
 no-variant zero a b c d e f = refl
@@ -70,6 +60,9 @@ within v false e f = let z : _≡_ {A = ℕ} 0 1 = cc in absurd (omega arith)
 
 pub is-variant : (v : ℕ) → variantCheck v .fault ≡ false → (1 ≤ v) × (v ≤ 6)
 is-variant v e = within v (leb 1 v) refl e
+
+pub variant-sound : (v : ℕ) → 1 ≤ v → v ≤ 6 → variantCheck v .fault ≡ false
+variant-sound v least most = rw (le-leb 1 v least, le-ltb 6 v most)
 
 pub row-found : (v : ℕ) (a : RowAnswer) (r : Row) → rowOutcome a ≡ rowAnswer v → a ≡ Found r → IsVariant v r
 row-found v a r e f =

@@ -1,7 +1,7 @@
 -- Turned away (document 01): the checks by number, and the first fault found.
 -- Assumes nothing.
 use Prim.Native.Nat.{ℕ, _^_}
-use mathlib.Core.Bool.{Bool, true, false, not}
+use mathlib.Core.Bool.{Bool, true, not}
 use mathlib.Core.List.{List, [], _∷_}
 use lib.Dec.{leb, ltb, eqb}
 use lib.ListN.{length}
@@ -43,13 +43,19 @@ abbrev pub checked : {A : Type 0} → List Check → Outcome A → Outcome A
 checked [] r = r
 checked (c ∷ cs) r = pick (c .fault) (refused (c .number)) (checked cs r)
 
+-- ---- the checks that several calls share
+
+-- 2: lent memory has not n elements
+abbrev pub sizeCheck : {B : Type 0} → ℕ → List B → Check
+sizeCheck n s = record { number = 2; fault = not (eqb (length s) n) }
+
 -- 1: the variant is not 1 to 6
 abbrev pub variantCheck : ℕ → Check
 variantCheck v = record { number = 1; fault = pick (leb 1 v) (ltb 6 v) true }
 
 -- 2: a key is not 10 bytes
 abbrev pub keyCheck : List ℕ → Check
-keyCheck key = record { number = 2; fault = not (eqb (length key) keyBytes) }
+keyCheck key = sizeCheck keyBytes key
 
 -- 6: a position is over 254
 abbrev pub positionCheck : ℕ → Check

@@ -2,7 +2,6 @@
 -- Assumes nothing.
 use Prim.Native.Nat.{ℕ, zero, suc, _+_, _-_, _*_, _/_, _%_, _^_}
 use mathlib.Core.List.{List, [], _∷_, _++_}
-use mathlib.Core.Bool.{Bool, true, false}
 use lib.ListN.{getD}
 use lib.Dec.{eqb}
 use Rattle.katan.specs.Bit.{bit, xor, pick, tabulate}
@@ -13,6 +12,10 @@ use Rattle.katan.specs.declared.Key.{Key}
 -- a key's number
 abbrev pub keyNumber : Key → ℕ
 keyNumber key = key .high * 2 ^ 64 + key .low
+
+-- the key of a number of 80 bits
+abbrev pub keyOf : ℕ → Key
+keyOf n = record { low = n % 2 ^ 64; high = n / 2 ^ 64 }
 
 abbrev pub keyLength : ℕ
 keyLength = 80

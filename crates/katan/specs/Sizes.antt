@@ -2,9 +2,13 @@
 -- Assumes nothing.
 use Prim.Native.Nat.{ℕ}
 
--- the lanes of a bench, and the most blocks worked together
+-- the lanes of a bench, and the most blocks of one call
 abbrev pub laneCount : ℕ
 laneCount = 64
+
+-- the bits of a word: so many lanes are worked together
+abbrev pub wordBits : ℕ
+wordBits = 64
 
 -- the bytes of a key
 abbrev pub keyBytes : ℕ

@@ -1,7 +1,7 @@
 -- The variants' table (document 01, "Clock and round").
 -- Assumes nothing.
 use Prim.Native.Nat.{ℕ, _-_}
-use mathlib.Core.Bool.{Bool, true, false}
+use mathlib.Core.Bool.{Bool}
 use mathlib.Core.List.{List, [], _∷_}
 use lib.Dec.{leb}
 use lib.ListN.{getD}
@@ -27,5 +27,8 @@ abbrev pub widthOf : ℕ → ℕ
 widthOf v = rowOf v .n
 
 -- of the variants 1 to 6, the first three are KATAN and the others KTANTAN
+abbrev pub lastKatan : ℕ
+lastKatan = 3
+
 abbrev pub isKatan : ℕ → Bool
-isKatan v = leb v 3
+isKatan v = leb v lastKatan

@@ -3,8 +3,20 @@
 // The rounds are 0 to 253.
 pub const ROUNDS: u8 = 254;
 
-// The lanes of a bench, and the most blocks worked together.
+// The same as a table's length, with one entry a round.
+pub const ROUND_COUNT: usize = ROUNDS as usize;
+
+// The key bits of all rounds: ka and kb of each.
+pub const ROUND_KEYS: usize = 2 * ROUND_COUNT;
+
+// The bits of a key.
+pub const KEY_BITS: usize = 80;
+
+// The lanes of a bench, and the most blocks of one call.
 pub const LANES: usize = 64;
+
+// The bits of a word: so many lanes are worked together.
+pub const WORD_BITS: usize = 64;
 
 // The bytes of a key.
 pub const KEY_BYTES: usize = 10;

@@ -11,11 +11,12 @@ use lib.ListN.{length, getD}
 use Rattle.katan.specs.Bit.{pick}
 use Rattle.katan.specs.Variant.{rowOf}
 use Rattle.katan.specs.Checks.{Outcome, value, refused, checked, variantCheck}
+use Rattle.katan.specs.Lent.{lentAfter}
 use Rattle.katan.specs.declared.Row.{Row}
-use Rattle.katan.proofs.Variants.{fault-first, fault-later}
+use Rattle.katan.proofs.Checked.{fault-first, fault-later}
 use Rattle.lanes.specs.declared.Direction.{Direction}
 use Rattle.katan.specs.Sizes.{laneCount, keyBytes}
-use Rattle.lanes.specs.Many.{results, any, lengthsCheck, blocksCheck, manyChecks, manyAnswer, written, manyOf}
+use Rattle.lanes.specs.Many.{results, any, lengthsCheck, blocksCheck, manyChecks, manyAnswer, manyOf}
 
 -- ---- tests on lists
 
@@ -90,7 +91,7 @@ module _ (v : ℕ) (keys blocks out : List ℕ) where
 
     refuses : (k : ℕ) → checked (manyChecks v keys blocks out) (value (tt {0})) ≡ refused k → checked (manyChecks v keys blocks out) (value (results d v keys blocks)) ≡ refused k
         → Promised (refused k) out
-    refuses k h g = (sym h, sym (ap (λ (o : Outcome (List ℕ)). written o out) g))
+    refuses k h g = (sym h, sym (ap (λ (o : Outcome (List ℕ)). lentAfter (λ (ys : List ℕ). ys) o out) g))
 
     pub refuses-1 : (k : ℕ) → k ≡ 1 → variantCheck v .fault ≡ true → Promised (refused k) out
     refuses-1 k q e = rw q (refuses 1 (finds-1 (value (tt {0})) e) (finds-1 (value (results d v keys blocks)) e))
@@ -105,4 +106,4 @@ module _ (v : ℕ) (keys blocks out : List ℕ) where
 
         pub done : blocksCheck v blocks .fault ≡ false → (out′ : List ℕ) → out′ ≡ results d v keys blocks → Promised (value (tt {0})) out′
         done g out′ p =
-            (sym (finds-none (value (tt {0})) e f g), p ∙ sym (ap (λ (o : Outcome (List ℕ)). written o out) (finds-none (value (results d v keys blocks)) e f g)))
+            (sym (finds-none (value (tt {0})) e f g), p ∙ sym (ap (λ (o : Outcome (List ℕ)). lentAfter (λ (ys : List ℕ). ys) o out) (finds-none (value (results d v keys blocks)) e f g)))

@@ -9,6 +9,7 @@ use Rattle.katan.specs.Bit.{pick, tabulate, numberIn}
 use Rattle.katan.specs.Sizes.{laneCount, keyBytes}
 use Rattle.katan.specs.Machine.{encryption, decryption}
 use Rattle.katan.specs.Checks.{numberOf, Outcome, value, refused, Check, checked, variantCheck, blockCheck}
+use Rattle.katan.specs.Lent.{lentAfter}
 use Rattle.lanes.specs.declared.Direction.{Direction}
 use Rattle.lanes.specs.declared.Direction.the-variants.{Encrypt, Decrypt}
 use Rattle.lanes.specs.declared.Answer.{Answer}
@@ -53,17 +54,13 @@ abbrev pub manyChecks : ℕ → (keys blocks out : List ℕ) → List Check
 manyChecks v keys blocks out = variantCheck v ∷ lengthsCheck keys blocks out ∷ blocksCheck v blocks ∷ []
 
 -- done, or the refusal's number
-abbrev pub outcome : Answer → Outcome (Unit {0})
-outcome Done = value tt
-outcome (Refused r) = refused (numberOf r)
+abbrev pub manyOutcome : Answer → Outcome (Unit {0})
+manyOutcome Done = value tt
+manyOutcome (Refused r) = refused (numberOf r)
 
 abbrev pub manyAnswer : ℕ → (keys blocks out : List ℕ) → Outcome (Unit {0})
 manyAnswer v keys blocks out = checked (manyChecks v keys blocks out) (value tt)
 
 -- a refusal leaves the output as it was
-abbrev pub written : Outcome (List ℕ) → List ℕ → List ℕ
-written (value ys) out = ys
-written (refused k) out = out
-
 abbrev pub manyOf : Direction → ℕ → (keys blocks out : List ℕ) → List ℕ
-manyOf d v keys blocks out = written (checked (manyChecks v keys blocks out) (value (results d v keys blocks))) out
+manyOf d v keys blocks out = lentAfter (λ ys. ys) (checked (manyChecks v keys blocks out) (value (results d v keys blocks))) out

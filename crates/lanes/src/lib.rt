@@ -4,17 +4,20 @@ ghost use Prim.Native.Nat.{ℕ, _*_, _^_, _<_, _≤_};
 ghost use lib.Dec.{leb};
 ghost use lib.ListN.{getD, length, take};
 ghost use Rattle.katan.specs.Variant.{rowOf, widthOf};
-ghost use Rattle.katan.specs.Sizes.{laneCount, keyBytes};
-ghost use Rattle.katan.specs.Within.{Entries};
-ghost use Rattle.lane_rounds.specs.Words.{laneBlock};
-ghost use Rattle.lanes.specs.Many.{blockKey, oneBlock, any, outcome, manyAnswer, manyOf};
-ghost use Rattle.lanes.specs.Words.{HighLanes, allRounds};
+ghost use Rattle.katan.specs.Sizes.{wordBits, keyBytes};
+ghost use Rattle.katan.specs.inner.Within.{Entries};
+ghost use Rattle.lanes_rounds.specs.Words.{laneBlock};
+ghost use Rattle.lanes.specs.Many.{blockKey, oneBlock, any, manyOutcome, manyAnswer, manyOf};
+ghost use Rattle.lanes.specs.inner.Words.{HighLanes, allRounds};
+use crate::keys::HIGH_PLACE;
 use crate::keys::key_words;
 use crate::keys::with_high;
 use katan::KEY_BYTES;
 use katan::LANES;
+use katan::ROUND_KEYS;
 use katan::Refusal;
 use katan::RowAnswer;
+use katan::WORD_BITS;
 
 mod keys;
 
@@ -37,15 +40,15 @@ fn any_wide(n: usize, blocks: &[u64]) -> bool
     for i in 0..blocks.len() {
         all = all | blocks[i];
     }
-    numbers::too_wide(n, all)
+    katan_numbers::too_wide(n, all)
 }
 
-// The blocks as the rows of a matrix. Where they are fewer than the lanes, the other lanes hold zeros.
-fn rows_of(blocks: &[u64]) -> [u64; LANES]
-    requires { ⌜ length (now blocks) ≤ laneCount ⌝ }
+// The blocks as the rows of a matrix. Where they are fewer than the rows, the other rows are zeros.
+fn rows_of(blocks: &[u64]) -> [u64; WORD_BITS]
+    requires { ⌜ length (now blocks) ≤ wordBits ⌝ }
     ensures { λ r. ⌜ Entries (λ i. getD (now (blocks .entry)) i 0) (length (now (blocks .entry))) r ⌝ }
 {
-    let mut rows = [0u64; LANES];
+    let mut rows = [0u64; WORD_BITS];
     for i in 0..blocks.len() {
         rows[i] = blocks[i];
     }
@@ -53,52 +56,63 @@ fn rows_of(blocks: &[u64]) -> [u64; LANES]
 }
 
 // All rounds on the words, either way.
-fn passed(direction: Direction, n: usize, keys: &[u64; 508], words: &[u64; 64]) -> [u64; 64]
+fn all_rounds(
+    direction: Direction,
+    n: usize,
+    keys: &[u64; ROUND_KEYS],
+    words: &[u64; WORD_BITS],
+) -> [u64; WORD_BITS]
     ensures { λ r. ⌜ r ≡ allRounds direction n (now (keys .entry)) (now (words .entry)) ⌝ }
 {
     match direction {
-        Direction::Encrypt => lane_rounds::encrypted(n, keys, words),
-        Direction::Decrypt => lane_rounds::decrypted(n, keys, words),
+        Direction::Encrypt => lanes_rounds::encrypted(n, keys, words),
+        Direction::Decrypt => lanes_rounds::decrypted(n, keys, words),
     }
 }
 
 // From the words of the blocks of n bits to the results as rows. `high` has bits 64 to 79 of the keys in its words 48 to 63.
-fn finished(
+fn rows_from_words(
     direction: Direction,
     variant: u8,
     n: usize,
     keys: &[u8],
     count: usize,
-    words: &[u64; 64],
-    high: &[u64; 64],
-) -> [u64; LANES]
-    requires { ⌜ (n ≡ widthOf variant) × (count ≤ laneCount) × (keyBytes * count ≤ length (now keys)) × HighLanes (blockKey (now keys)) count (now high) ⌝ }
+    words: &[u64; WORD_BITS],
+    high: &[u64; WORD_BITS],
+) -> [u64; WORD_BITS]
+    requires { ⌜ (n ≡ widthOf variant) × (count ≤ wordBits) × (keyBytes * count ≤ length (now keys)) × HighLanes (blockKey (now keys)) count (now high) ⌝ }
     ensures { λ r. ⌜ Entries (λ j. oneBlock direction variant (blockKey (now (keys .entry)) j) (laneBlock (rowOf variant) (now (words .entry)) j)) count r ⌝ }
 {
-    let round_keys = lane_keys::round_words(variant, key_words(keys, count, high));
-    transpose::transpose(passed(direction, n, &round_keys, words))
+    let round_keys = lanes_keys::round_words(variant, key_words(keys, count, high));
+    lanes_transpose::transpose(all_rounds(direction, n, &round_keys, words))
 }
 
 // The results, as rows.
-fn worked(direction: Direction, variant: u8, n: usize, keys: &[u8], blocks: &[u64]) -> [u64; LANES]
-    requires { ⌜ (n ≡ widthOf variant) × (length (now blocks) ≤ laneCount) × (keyBytes * length (now blocks) ≤ length (now keys)) ⌝ }
+fn result_rows(
+    direction: Direction,
+    variant: u8,
+    n: usize,
+    keys: &[u8],
+    blocks: &[u64],
+) -> [u64; WORD_BITS]
+    requires { ⌜ (n ≡ widthOf variant) × (length (now blocks) ≤ wordBits) × (keyBytes * length (now blocks) ≤ length (now keys)) ⌝ }
     requires { ⌜ ((i : ℕ) → i < length (now blocks) → getD (now blocks) i 0 < 2 ^ n) ⌝ }
     ensures { λ r. ⌜ Entries (λ i. oneBlock direction variant (blockKey (now (keys .entry)) i) (getD (now (blocks .entry)) i 0)) (length (now (blocks .entry))) r ⌝ }
 {
     let count = blocks.len();
-    if n <= 48 {
-        let words = transpose::transpose(with_high(blocks, keys, count));
-        finished(direction, variant, n, keys, count, &words, &words)
+    if n <= HIGH_PLACE {
+        let words = lanes_transpose::transpose(with_high(blocks, keys, count));
+        rows_from_words(direction, variant, n, keys, count, &words, &words)
     } else {
-        let words = transpose::transpose(rows_of(blocks));
-        let zeros = [0u64; 64];
-        let high = transpose::transpose(with_high(&zeros, keys, count));
-        finished(direction, variant, n, keys, count, &words, &high)
+        let words = lanes_transpose::transpose(rows_of(blocks));
+        let zeros = [0u64; WORD_BITS];
+        let high = lanes_transpose::transpose(with_high(&zeros, keys, count));
+        rows_from_words(direction, variant, n, keys, count, &words, &high)
     }
 }
 
-fn write(rows: [u64; LANES], out: &mut [u64])
-    requires { ⌜ length (now out) ≤ laneCount ⌝ }
+fn write(rows: [u64; WORD_BITS], out: &mut [u64])
+    requires { ⌜ length (now out) ≤ wordBits ⌝ }
     ensures { λ r. ⌜ now (out .exit) ≡ take (length (now (out .entry))) rows ⌝ }
 {
     for i in 0..out.len() {
@@ -114,10 +128,10 @@ pub fn many(
     blocks: &[u64],
     out: &mut [u64],
 ) -> Answer
-    ensures { λ r. ⌜ outcome r ≡ manyAnswer variant (now (keys .entry)) (now (blocks .entry)) (now (out .entry)) ⌝ }
+    ensures { λ r. ⌜ manyOutcome r ≡ manyAnswer variant (now (keys .entry)) (now (blocks .entry)) (now (out .entry)) ⌝ }
     ensures { λ r. ⌜ now (out .exit) ≡ manyOf direction variant (now (keys .entry)) (now (blocks .entry)) (now (out .entry)) ⌝ }
 {
-    match variants::row_of(variant) {
+    match katan_variants::row_of(variant) {
         RowAnswer::Found(row) => {
             let n = blocks.len();
             if n == 0 {
@@ -135,7 +149,7 @@ pub fn many(
             if any_wide(row.n, blocks) {
                 return Answer::Refused(Refusal::BadBlock);
             }
-            write(worked(direction, variant, row.n, keys, blocks), out);
+            write(result_rows(direction, variant, row.n, keys, blocks), out);
             Answer::Done
         }
         RowAnswer::Refused(r) => Answer::Refused(r),

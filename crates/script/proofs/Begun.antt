@@ -12,14 +12,15 @@ use lib.ListN.{length, take, drop, getD, set, drop-of-length-le}
 use lib.Seq.{drop-cons, take-all}
 use borrow.Author.Tests.{lt-ltb, le-ltb, eq-eqb, ne-eqb, leb-true, leb-false}
 use Rattle.katan.specs.Bit.{pick}
-use Rattle.answers.specs.Printed.{lineFeed, printedAs}
-use Rattle.answers.specs.declared.Printed.{Printed}
-use Rattle.script.specs.Pieces.{pendingRoom, kept, emptied, lineIn, onLineFeed, onByte, onBytes, keptAll, lineEnd, usedOf, stepOf, stepOn}
+use Rattle.script_answers.specs.Printed.{lineFeed, printedAs}
+use Rattle.script_answers.specs.declared.Printed.{Printed}
+use Rattle.script.specs.Pieces.{pendingRoom, kept, emptied, lineIn, onLineFeed, onByte, onBytes, lineEnd, usedOf, stepResult, stepOn}
+use Rattle.script.specs.inner.Kept.{keptAll}
 use Rattle.script.specs.declared.Pending.{Pending}
 use Rattle.script.specs.declared.Script.{Script}
 use Rattle.script.specs.declared.Step.{Step}
-use Rattle.interpreter.specs.declared.Turn.{Turn}
-use Rattle.interpreter.specs.Session.{sessionLine, turnOf}
+use Rattle.script_interpreter.specs.declared.LineResult.{LineResult}
+use Rattle.script_interpreter.specs.Session.{sessionLine, resultOf}
 
 -- ---- one turn of the loop that looks for a line feed
 
@@ -103,17 +104,17 @@ module _ (x : Script) (piece : List ℕ) where
   abbrev line : Pending
   line = keptAll (x .pending) (take (lineEnd piece) piece)
 
-  pub step-none : lineEnd piece ≡ length piece → stepOn x piece ≡ stepOf (lineEnd piece) (holding x line, [])
+  pub step-none : lineEnd piece ≡ length piece → stepOn x piece ≡ stepResult (lineEnd piece) (holding x line, [])
   unfolding stepOn
   step-none e =
       let u : usedOf piece ≡ lineEnd piece = omega arith in
-      ap (λ (n : ℕ). stepOf n (onBytes x (take n piece))) u ∙ ap (stepOf (lineEnd piece)) (plain x piece)
+      ap (λ (n : ℕ). stepResult n (onBytes x (take n piece))) u ∙ ap (stepResult (lineEnd piece)) (plain x piece)
 
-  pub step-line : lineEnd piece < length piece → stepOn x piece ≡ stepOf (suc (lineEnd piece)) (onLineFeed (holding x line))
+  pub step-line : lineEnd piece < length piece → stepOn x piece ≡ stepResult (suc (lineEnd piece)) (onLineFeed (holding x line))
   unfolding stepOn
   step-line h =
       let u : usedOf piece ≡ suc (lineEnd piece) = omega arith in
-      ap (λ (n : ℕ). stepOf n (onBytes x (take n piece))) u ∙ ap (stepOf (suc (lineEnd piece))) (fed x piece h)
+      ap (λ (n : ℕ). stepResult n (onBytes x (take n piece))) u ∙ ap (stepResult (suc (lineEnd piece))) (fed x piece h)
 
 -- a line that has begun shows no more bytes than there is room for
 pub shown-all : (bytes : List ℕ) (n m : ℕ) → length bytes ≡ pendingRoom → m ≡ min pendingRoom n → take m bytes ≡ take n bytes
@@ -137,13 +138,13 @@ module _ (x : Script) (piece : List ℕ) (end : ℕ) (p : Pending) (e : end ≡ 
       let make : Pending → ℕ → Printed → Step = λ (q : Pending) (n : ℕ) (r : Printed). record { script = holding x q; used = n; printed = r } in
       ap (λ (q : Pending). make q end printed) same-line ∙ ap₂ (make (line x piece)) e f ∙ sym (step-none x piece (sym e ∙ h))
 
-  pub line-step : (t : Turn) → end ≤ length piece → t ≡ turnOf (sessionLine (x .session) (lineIn p)) → (end ≡ length piece → ⊥)
+  pub line-step : (t : LineResult) → end ≤ length piece → t ≡ resultOf (sessionLine (x .session) (lineIn p)) → (end ≡ length piece → ⊥)
       → _≡_ {A = Step} (record { script = record { session = t .session; pending = record { bytes = p .bytes; length = 0 } }; used = end + 1; printed = t .printed }) (stepOn x piece)
   line-step t most f h =
-      let make : Pending → ℕ → Turn → Step = λ (q : Pending) (n : ℕ) (u : Turn). record { script = record { session = u .session; pending = emptied q }; used = n; printed = u .printed } in
+      let make : Pending → ℕ → LineResult → Step = λ (q : Pending) (n : ℕ) (u : LineResult). record { script = record { session = u .session; pending = emptied q }; used = n; printed = u .printed } in
       let next : end + 1 ≡ suc (lineEnd piece) = omega arith in
       ap₂ (make p) next f
-      ∙ ap (λ (q : Pending). make q (suc (lineEnd piece)) (turnOf (sessionLine (x .session) (lineIn q)))) same-line
+      ∙ ap (λ (q : Pending). make q (suc (lineEnd piece)) (resultOf (sessionLine (x .session) (lineIn q)))) same-line
       ∙ sym (step-line x piece (omega arith))
 
 -- a call takes some of a piece

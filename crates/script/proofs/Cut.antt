@@ -10,21 +10,21 @@ use lib.ListN.{length, take, set, length-append, length-set}
 use lib.Seq.{take-all, length-take-le, take-suc-set, take-append-le}
 use borrow.Author.Tests.{leb-true, leb-false, ltb-true, ltb-false, eqb-true, eq-eqb, ne-eqb}
 use Rattle.katan.specs.Bit.{pick}
-use Rattle.answers.specs.Printed.{lineFeed}
-use Rattle.command.specs.Reading.{commandIn}
-use Rattle.interpreter.specs.Interpreter.{takesAs, onLine, outputOf}
-use Rattle.interpreter.specs.Session.{noBench, variantOf, openBench, sessionTransition, sessionLine}
+use Rattle.script_answers.specs.Printed.{lineFeed}
+use Rattle.script_command.specs.Answer.{commandAnswer}
+use Rattle.script_interpreter.specs.Interpreter.{takesAs, onLine, scriptOutput}
+use Rattle.script_interpreter.specs.Session.{noBench, variantOf, openBench, sessionTransition, sessionLine}
 use Rattle.script.specs.Lines.{before, linesOf}
 use Rattle.script.specs.Pieces.{pendingRoom, kept, emptied, lineIn, started, onLineFeed, onByte, onBytes, atEnd, outputInPieces}
 use Rattle.script.specs.Claim.{joined}
-use Rattle.interpreter.specs.declared.Session.{Session}
+use Rattle.script_interpreter.specs.declared.Session.{Session}
 use Rattle.script.specs.declared.Pending.{Pending}
 use Rattle.script.specs.declared.Script.{Script}
-use Rattle.interpreter.proofs.Taken.{long-broken}
+use Rattle.script_interpreter.proofs.Taken.{long-broken}
 use Rattle.script.proofs.Begun.{holding}
 
 abbrev output : Session → List (List ℕ) → List ℕ
-output = outputOf variantOf openBench sessionTransition
+output = scriptOutput variantOf openBench sessionTransition
 
 -- ---- lines of an input that begins with bytes other than a line feed
 
@@ -48,11 +48,11 @@ lines-last b (a ∷ line) n = rw (n .0) (ap (before b) (lines-last a line (n .1)
 
 -- ---- a line too long is known by its first bytes
 
-same-command : (v : ℕ) (line : List ℕ) → commandIn v (take pendingRoom line) ≡ commandIn v line
+same-command : (v : ℕ) (line : List ℕ) → commandAnswer v (take pendingRoom line) ≡ commandAnswer v line
 same-command v line = go (leb (length line) pendingRoom) refl
   where
-    go : (t : Bool) → leb (length line) pendingRoom ≡ t → commandIn v (take pendingRoom line) ≡ commandIn v line
-    go true e = ap (commandIn v) (take-all pendingRoom line (leb-true (length line) pendingRoom e))
+    go : (t : Bool) → leb (length line) pendingRoom ≡ t → commandAnswer v (take pendingRoom line) ≡ commandAnswer v line
+    go true e = ap (commandAnswer v) (take-all pendingRoom line (leb-true (length line) pendingRoom e))
     go false e =
         let more : pendingRoom < length line = leb-false (length line) pendingRoom e in
         let size : length (take pendingRoom line) ≡ pendingRoom = length-take-le pendingRoom line (omega arith) in
@@ -115,7 +115,7 @@ unfolding atEnd
 end-some x e = rw (ne-eqb (x .pending .length) 0 e)
 
 at-end : (x : Script) (line : List ℕ) → NoFeed line → Begun (x .pending) line → atEnd x ≡ output (x .session) (linesOf (line ++ []))
-unfolding linesOf outputOf
+unfolding linesOf scriptOutput
 at-end x [] n h = end-none x (omega (arith, h .size))
 at-end x (b ∷ line) n h =
     end-some x (λ z. omega (arith, h .size))
@@ -140,7 +140,7 @@ module _ (b : ℕ) (input : List ℕ) (more : (y : Script) (begun : List ℕ) �
   going t = (t .1 ++ onBytes (t .0) input .1) ++ atEnd (onBytes (t .0) input .0)
 
   whole-feed : eqb b lineFeed ≡ true → Whole (b ∷ input) x line
-  unfolding onBytes outputOf
+  unfolding onBytes scriptOutput
   whole-feed e =
       let t = onLineFeed x in
       let s = x .session in

@@ -4,7 +4,7 @@ use mathlib.Core.Path.{_∙_}
 use Rattle.script.specs.Lines.{linesOf}
 use Rattle.script.specs.Claim.{joined, EveryScript}
 use Rattle.script.proofs.Cut.{cut-lines}
-use Rattle.interpreter.proofs.Same.{same-output}
+use Rattle.script_interpreter.proofs.Same.{same-output}
 
 -- THEOREM: for every input, cut into pieces in any way, the output is that of document 01's machines on the input's lines
 pub every-script : EveryScript

@@ -3,8 +3,8 @@
 use Prim.Native.Nat.{ℕ}
 use mathlib.Core.Path.{_≡_}
 use mathlib.Core.List.{List, [], _∷_, _++_}
-use Rattle.interpreter.specs.Interpreter.{outputOf}
-use Rattle.interpreter.specs.Session.{none, fresh, machinesVariant, machinesTransition}
+use Rattle.script_interpreter.specs.Interpreter.{scriptOutput}
+use Rattle.script_interpreter.specs.Session.{none, fresh, machinesVariant, machinesTransition}
 use Rattle.script.specs.Lines.{linesOf}
 use Rattle.script.specs.Pieces.{started, outputInPieces}
 
@@ -14,7 +14,7 @@ joined (piece ∷ pieces) = piece ++ joined pieces
 
 -- the output of document 01's machines for the lines of an input, from no bench on
 abbrev pub machinesOutput : List ℕ → List ℕ
-machinesOutput input = outputOf machinesVariant fresh machinesTransition none (linesOf input)
+machinesOutput input = scriptOutput machinesVariant fresh machinesTransition none (linesOf input)
 
 -- for every input, cut into pieces in any way
 abbrev pub EveryScript : Type 0

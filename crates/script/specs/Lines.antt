@@ -4,7 +4,7 @@ use Prim.Native.Nat.{ℕ}
 use mathlib.Core.List.{List, [], _∷_}
 use lib.Dec.{eqb}
 use Rattle.katan.specs.Bit.{pick}
-use Rattle.answers.specs.Printed.{lineFeed}
+use Rattle.script_answers.specs.Printed.{lineFeed}
 
 -- a byte in front of the first line
 abbrev pub before : ℕ → List (List ℕ) → List (List ℕ)

@@ -5,10 +5,10 @@ use mathlib.Core.List.{List, [], _∷_, _++_}
 use lib.Dec.{eqb, ltb}
 use lib.ListN.{length, take, set, replicate}
 use Rattle.katan.specs.Bit.{pick}
-use Rattle.answers.specs.Printed.{lineFeed, printedAs}
-use Rattle.command.specs.Written.{lineLength}
-use Rattle.interpreter.specs.Session.{noBench, sessionLine}
-use Rattle.interpreter.specs.declared.Session.{Session}
+use Rattle.script_answers.specs.Printed.{lineFeed, printedAs}
+use Rattle.script_command.specs.Written.{lineLength}
+use Rattle.script_interpreter.specs.Session.{noBench, sessionLine}
+use Rattle.script_interpreter.specs.declared.Session.{Session}
 use Rattle.script.specs.declared.Pending.{Pending}
 use Rattle.script.specs.declared.Script.{Script}
 use Rattle.script.specs.declared.Step.{Step}
@@ -67,12 +67,8 @@ lineEnd (b ∷ piece) = pick (eqb b lineFeed) 0 (suc (lineEnd piece))
 abbrev pub usedOf : List ℕ → ℕ
 usedOf piece = min (length piece) (suc (lineEnd piece))
 
-unfoldable pub keptAll : Pending → List ℕ → Pending
-keptAll p [] = p
-keptAll p (b ∷ bytes) = keptAll (kept p b) bytes
-
-abbrev pub stepOf : ℕ → Script × List ℕ → Step
-stepOf used t = record { script = t .0; used = used; printed = printedAs (t .1) }
+abbrev pub stepResult : ℕ → Script × List ℕ → Step
+stepResult used t = record { script = t .0; used = used; printed = printedAs (t .1) }
 
 unfoldable pub stepOn : Script → List ℕ → Step
-stepOn x piece = stepOf (usedOf piece) (onBytes x (take (usedOf piece) piece))
+stepOn x piece = stepResult (usedOf piece) (onBytes x (take (usedOf piece) piece))

@@ -1,19 +1,20 @@
 // The script: its lines, over an input that comes in pieces.
 ghost use mathlib.Core.Path.{_≡_};
 ghost use Prim.Native.Nat.{min};
-ghost use Rattle.answers.specs.Printed.{printedAs};
-ghost use Rattle.interpreter.specs.Session.{sessionLine, turnOf};
-ghost use Rattle.script.specs.Pieces.{started, lineIn, atEnd, stepOn};
+ghost use Rattle.script_answers.specs.Printed.{printedAs};
+ghost use Rattle.script_interpreter.specs.Session.{sessionLine, resultOf};
+ghost use Rattle.script.specs.Pieces.{pendingRoom, started, lineIn, atEnd, stepOn};
 use crate::splitting::keep;
 use crate::splitting::line_end;
-use answers::Printed;
-use interpreter::Session;
-use interpreter::Turn;
+use script_answers::Printed;
+use script_command::LINE_LENGTH;
+use script_interpreter::LineResult;
+use script_interpreter::Session;
 
 mod splitting;
 
 // One byte more than a line may have: it tells that a line is too long.
-pub const PENDING: usize = 121;
+pub const PENDING: usize = LINE_LENGTH + 1;
 
 // What has come of a line that has begun.
 pub struct Pending {
@@ -40,8 +41,8 @@ pub fn start() -> Script
 {
     let session = Session {
         is_open: false,
-        bench: stepping::fresh_bench(0),
-        link: stepping::fresh_link(),
+        bench: bench_stepping::fresh_bench(0),
+        link: bench_stepping::fresh_link(),
     };
     let pending = Pending {
         bytes: [0u8; PENDING],
@@ -55,18 +56,18 @@ pub fn start() -> Script
 
 // How many bytes a line that has begun shows.
 fn shown(length: usize) -> usize
-    ensures { λ r. ⌜ r ≡ min 121 length ⌝ }
+    ensures { λ r. ⌜ r ≡ min pendingRoom length ⌝ }
 {
     if length < PENDING { length } else { PENDING }
 }
 
 // The line that has begun ends.
-fn ended(session: Session, pending: Pending) -> Turn
-    ensures { λ r. ⌜ r ≡ turnOf (sessionLine session (lineIn pending)) ⌝ }
+fn ended(session: Session, pending: Pending) -> LineResult
+    ensures { λ r. ⌜ r ≡ resultOf (sessionLine session (lineIn pending)) ⌝ }
 {
     let bytes = pending.bytes;
     let n = shown(pending.length);
-    interpreter::line(session, &bytes[..n])
+    script_interpreter::line(session, &bytes[..n])
 }
 
 // The piece up to and with its first line feed.
@@ -85,13 +86,13 @@ pub fn take_piece(script: Script, piece: &[u8]) -> Step
         return Step {
             script: next,
             used: end,
-            printed: answers::nothing(),
+            printed: script_answers::nothing(),
         };
     }
-    let turn = ended(session, pending);
+    let result = ended(session, pending);
     let bytes = pending.bytes;
-    let after = turn.session;
-    let printed = turn.printed;
+    let after = result.session;
+    let printed = result.printed;
     let empty = Pending {
         bytes: bytes,
         length: 0,
@@ -114,8 +115,8 @@ pub fn finish(script: Script) -> Printed
     let session = script.session;
     let pending = script.pending;
     if pending.length == 0 {
-        return answers::nothing();
+        return script_answers::nothing();
     }
-    let turn = ended(session, pending);
-    turn.printed
+    let result = ended(session, pending);
+    result.printed
 }

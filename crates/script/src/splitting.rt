@@ -2,7 +2,8 @@
 ghost use mathlib.Core.Path.{_≡_};
 ghost use Prim.Native.Nat.{_≤_};
 ghost use lib.ListN.{length};
-ghost use Rattle.script.specs.Pieces.{lineEnd, keptAll};
+ghost use Rattle.script.specs.Pieces.{lineEnd};
+ghost use Rattle.script.specs.inner.Kept.{keptAll};
 use crate::PENDING;
 use crate::Pending;
 

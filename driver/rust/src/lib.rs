@@ -18,63 +18,63 @@ use std::fmt;
 
 pub mod raw;
 
-/// Why a call was turned away.
+/// Why a call was turned away, each with its number. No call gives 13, which is for a line of a script.
 #[derive(Clone, Copy, Debug, PartialEq, Eq)]
+#[repr(u8)]
 pub enum Refusal {
-    /// 1: the variant is not 1 to 6, or a loaded lane of the bench is damaged.
-    BadVariant,
-    /// 2: a record is not 40 bytes, a key not 10, or something else has the wrong length.
-    BadLength,
-    /// 3: the kind is not 1 to 4.
-    BadKind,
-    /// 4: an unused field or a zero byte is not zero.
-    FieldNotZero,
-    /// 5: the lane is over 63.
-    BadLane,
-    /// 6: a load position is over 254, or a move count is 0 or over 254.
-    BadPosition,
-    /// 7: a block is 2^n or more.
-    BadBlock,
-    /// 8: the mask of a move or clear is 0.
-    EmptyMask,
-    /// 9: the number is neither last + 1 nor a nonzero last.
-    OutOfTurn,
-    /// 10: the number is last but the bytes differ.
-    OtherBytes,
-    /// 11: the lane read is empty.
-    EmptyLane,
-    /// 12: the clock rate is 0 or over 2,940,000,000.
-    BadRate,
+    /// The variant is not 1 to 6, or a loaded lane of the bench is damaged.
+    BadVariant = 1,
+    /// A record is not 40 bytes, a key not 10, or something else has the wrong length.
+    BadLength = 2,
+    /// The kind is not 1 to 4.
+    BadKind = 3,
+    /// An unused field or a zero byte is not zero.
+    FieldNotZero = 4,
+    /// The lane is over 63.
+    BadLane = 5,
+    /// A load position is over 254, or a move count is 0 or over 254.
+    BadPosition = 6,
+    /// A block is 2^n or more.
+    BadBlock = 7,
+    /// The mask of a move or clear is 0.
+    EmptyMask = 8,
+    /// The number is neither last + 1 nor a nonzero last.
+    OutOfTurn = 9,
+    /// The number is last but the bytes differ.
+    OtherBytes = 10,
+    /// The lane read is empty.
+    EmptyLane = 11,
+    /// The clock rate is 0 or over 2,940,000,000.
+    BadRate = 12,
 }
 
-use Refusal::*;
-
-/// The refusals in the order of their numbers, from 1.
-const REFUSALS: [Refusal; 12] = [
-    BadVariant,
-    BadLength,
-    BadKind,
-    FieldNotZero,
-    BadLane,
-    BadPosition,
-    BadBlock,
-    EmptyMask,
-    OutOfTurn,
-    OtherBytes,
-    EmptyLane,
-    BadRate,
-];
-
 impl Refusal {
-    /// The refusal of a number from 1 to 12.
+    /// The refusal of a number that a call can give.
     ///
     /// ```
     /// use katan_bench::Refusal;
     /// assert_eq!(Refusal::from_number(9), Some(Refusal::OutOfTurn));
     /// assert_eq!(Refusal::from_number(0), None);
+    /// assert_eq!(Refusal::from_number(13), None);
     /// ```
     pub fn from_number(number: u8) -> Option<Refusal> {
-        REFUSALS.get((number as usize).checked_sub(1)?).copied()
+        use Refusal::*;
+        let refusal = match number {
+            1 => BadVariant,
+            2 => BadLength,
+            3 => BadKind,
+            4 => FieldNotZero,
+            5 => BadLane,
+            6 => BadPosition,
+            7 => BadBlock,
+            8 => EmptyMask,
+            9 => OutOfTurn,
+            10 => OtherBytes,
+            11 => EmptyLane,
+            12 => BadRate,
+            _ => return None,
+        };
+        Some(refusal)
     }
 
     /// Its number.
@@ -83,7 +83,7 @@ impl Refusal {
     /// assert_eq!(katan_bench::Refusal::EmptyLane.number(), 11);
     /// ```
     pub fn number(self) -> u8 {
-        self as u8 + 1
+        self as u8
     }
 }
 
@@ -368,5 +368,18 @@ pub mod record {
     /// Empties them.
     pub fn clear(number: u32, mask: u64) -> [u8; LENGTH] {
         masked(4, number, mask, 0)
+    }
+}
+
+#[cfg(test)]
+mod tests {
+    use super::Refusal;
+
+    #[test]
+    fn each_number_is_of_its_refusal() {
+        for number in 0..=u8::MAX {
+            let found = Refusal::from_number(number).map(Refusal::number);
+            assert_eq!(found, (1..=12).contains(&number).then_some(number));
+        }
     }
 }

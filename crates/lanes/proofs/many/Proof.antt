@@ -66,8 +66,8 @@ returns-5 c =
     refuses-7 (a .variant) (a .keys .now) (a .blocks .now) (a .out .now) (a .direction) (is .no-fault) (no-fault (a .variant) (a .keys .now) (a .blocks .now) (a .out .now) (e .before .before .before .if1 .left) (e .before .before .if2 .left) (e .before .if3 .left) (e .if4 .left))
     (sym (blocks-fault (a .variant) _ (is .is-row) (a .blocks .now)) ∙ sym (c .before .any-wide .ensures) ∙ c .if5 .taken)
 
-worked-requires : tie.Need-worked-requires
-worked-requires c κs =
+result-rows-requires : tie.Need-result-rows-requires
+result-rows-requires c κs =
     let m = c .before .before .before .before .before .before in
     let d = m .before .before .before .before .before .before .before in
     let a = d .args in
@@ -90,7 +90,7 @@ returns-6 c =
     let a = d .args in
     let is = row-found (a .variant) (m .before .before .before .row-of .result) _ (m .before .before .before .row-of .ensures) (m .before .row .given .1) in
     let e = c .before .before .before .before .before .before .before in
-    let w = c .before .before .before .before .worked in
+    let w = c .before .before .before .before .result-rows in
     let x = c .before .before .write .ensures in
     let o : length (a .out .now) ≡ length (a .blocks .now) = e .if4 .left in
     let h : length (a .out .now) ≤ length (w .result) = omega (arith, w .ok) in
@@ -118,7 +118,7 @@ many-spec =
     returns-4
     any-wide-requires
     returns-5
-    worked-requires
+    result-rows-requires
     write-requires
     enum-known-r
     same-length

@@ -5,13 +5,14 @@ use Prim.Native.Nat.{_-_, _≤_}
 use native.Mathlib.Omega.{arith}
 use borrow.Author.Needs.{needs}
 use lib.ListN.{length, length-set, getD}
-use Rattle.katan.specs.Within.{Entries}
+use Rattle.katan.specs.inner.Within.{Entries}
+use Rattle.katan.specs.Sizes.{wordBits}
 use Rattle.katan.proofs.Fill.{filled}
 use Rattle.lanes.proofs.rows_of.Statement.{statement}
 use Rattle.lanes.proofs.rows_of.Tie as tie
 
 abbrev Inv-loop : tie.InvT-loop
-Inv-loop blocks rows₀ i₀ i-end rows i = (length rows ≡ 64) × (i ≤ i-end) × (i-end ≡ length blocks) × Entries (λ j. getD blocks j 0) i rows
+Inv-loop blocks rows₀ i₀ i-end rows i = (length rows ≡ wordBits) × (i ≤ i-end) × (i-end ≡ length blocks) × Entries (λ j. getD blocks j 0) i rows
 
 abbrev μ-loop : tie.MeasureT-loop
 μ-loop blocks rows₀ i₀ i-end rows i = i-end - i

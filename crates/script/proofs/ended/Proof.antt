@@ -6,7 +6,8 @@ use mathlib.Core.List.{List}
 use Prim.Native.Nat.{ℕ}
 use native.Mathlib.Omega.{arith}
 use lib.ListN.{length}
-use Rattle.interpreter.specs.Session.{sessionLine, turnOf}
+use Rattle.script_interpreter.specs.Session.{sessionLine, resultOf}
+use Rattle.script.specs.Pieces.{pendingRoom}
 use Rattle.script.proofs.Begun.{shown-all}
 use Rattle.script.proofs.ended.Statement.{statement}
 use Rattle.script.proofs.ended.Tie as tie
@@ -16,13 +17,13 @@ shown-requires c κs = search needs
 
 array-share-prefix-bytes : tie.Need-array-share-prefix-bytes
 array-share-prefix-bytes c =
-    let len : length (c .before .before .args .pending .bytes) ≡ 121 = search needs in
+    let len : length (c .before .before .args .pending .bytes) ≡ pendingRoom = search needs in
     omega (arith, c .shown .ensures)
 
 slice-aggregate-line : tie.Need-slice-aggregate-line
 slice-aggregate-line c =
     let bytes = c .before .before .before .args .pending .bytes in
-    let len : length bytes ≡ 121 = search needs in
+    let len : length bytes ≡ pendingRoom = search needs in
     sym (length-take-le (c .before .shown .result) bytes (omega (arith, c .before .shown .ensures)))
 
 line-requires : tie.Need-line-requires
@@ -31,8 +32,8 @@ line-requires c κs = search needs
 returns : tie.Need-returns
 returns c =
     let a = c .before .before .before .before .args in
-    let len : length (a .pending .bytes) ≡ 121 = search needs in
-    c .line .ensures ∙ ap (λ (l : List ℕ). turnOf (sessionLine (a .session) l)) (shown-all (a .pending .bytes) (a .pending .length) (c .before .before .shown .result) len (c .before .before .shown .ensures))
+    let len : length (a .pending .bytes) ≡ pendingRoom = search needs in
+    c .line .ensures ∙ ap (λ (l : List ℕ). resultOf (sessionLine (a .session) l)) (shown-all (a .pending .bytes) (a .pending .length) (c .before .before .shown .result) len (c .before .before .shown .ensures))
 
 pub ended-spec : {M : Type 1} → statement M
 ended-spec =

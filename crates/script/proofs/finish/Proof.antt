@@ -2,7 +2,7 @@ use borrow.Author.Needs.{needs}
 use mathlib.Core.Path.{ap}
 use borrow.Author.Tests.{eq-eqb, ne-eqb}
 use Rattle.script.specs.Pieces.{atEnd}
-use Rattle.interpreter.specs.declared.Turn.{Turn}
+use Rattle.script_interpreter.specs.declared.LineResult.{LineResult}
 use Rattle.script.proofs.finish.Statement.{statement}
 use Rattle.script.proofs.finish.Tie as tie
 
@@ -18,7 +18,7 @@ ended-requires c κs = search needs
 
 returns-2 : tie.Need-returns-2
 unfolding atEnd
-returns-2 c = rw (ne-eqb _ _ (c .before .before .if1 .left)) (ap (λ (t : Turn). t .printed) (c .before .ended .ensures))
+returns-2 c = rw (ne-eqb _ _ (c .before .before .if1 .left)) (ap (λ (t : LineResult). t .printed) (c .before .ended .ensures))
 
 pub finish-spec : {M : Type 1} → statement M
 finish-spec = tie.close (tie.spec nothing-requires returns ended-requires returns-2)

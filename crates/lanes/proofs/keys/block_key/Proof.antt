@@ -1,6 +1,8 @@
 -- `lanes::keys::block_key` meets its contract.
 -- Assumes nothing.
-use mathlib.Core.Path.{_∙_}
+use mathlib.Core.Path.{ap, _∙_}
+use Rattle.katan.specs.Key.{keyNumber}
+use Rattle.katan.proofs.KeyNumbers.{number-of-key}
 use borrow.Author.Needs.{needs}
 use Rattle.lanes.proofs.KeyLanes.{key-part}
 use Rattle.lanes.proofs.keys.block_key.Statement.{statement}
@@ -25,7 +27,7 @@ key-of-requires : tie.Need-key-of-requires
 key-of-requires c κs = search needs
 
 returns : tie.Need-returns
-returns c = c .key-of .ensures ∙ key-part (c .before .before .before .args .keys .now) (c .before .before .before .args .i)
+returns c = ap keyNumber (c .key-of .ensures) ∙ number-of-key _ ∙ key-part (c .before .before .before .args .keys .now) (c .before .before .before .args .i)
 
 pub block-key-spec : {M : Type 1} → statement M
 block-key-spec =

@@ -8,17 +8,19 @@ use borrow.Author.Needs.{needs}
 use borrow.Author.Tests.{le-leb, lt-leb}
 use lib.ListN.{length, length-set, getD}
 use Rattle.katan.specs.Bit.{pick}
-use Rattle.katan.specs.Within.{Entries}
+use Rattle.katan.specs.inner.Within.{Entries}
+use Rattle.katan.specs.Sizes.{wordBits}
+use Rattle.katan.specs.Key.{keyLength}
 use Rattle.katan.proofs.Fill.{filled}
-use Rattle.lanes.specs.Words.{keyWord}
+use Rattle.lanes.specs.inner.Words.{highBits, keyWord}
 use Rattle.lanes.proofs.keys.joined.Statement.{statement}
 use Rattle.lanes.proofs.keys.joined.Tie as tie
 
 abbrev Inv-loop : tie.InvT-loop
-Inv-loop low high words₀ i₀ words i = (length words ≡ 80) × (64 ≤ i) × (i ≤ 80) × Entries (keyWord low high) i words
+Inv-loop low high words₀ i₀ words i = (length words ≡ keyLength) × (wordBits ≤ i) × (i ≤ keyLength) × Entries (keyWord low high) i words
 
 abbrev μ-loop : tie.MeasureT-loop
-μ-loop low high words₀ i₀ words i = 80 - i
+μ-loop low high words₀ i₀ words i = keyLength - i
 
 low-words-requires : tie.Need-low-words-requires Inv-loop μ-loop
 low-words-requires c κs = search needs
@@ -26,7 +28,7 @@ low-words-requires c κs = search needs
 loop-holds : tie.Need-loop-holds Inv-loop μ-loop
 loop-holds c =
     let a = c .before .args in
-    (search needs, omega arith, omega arith, λ j q. c .low-words .ensures j q ∙ sym (ap (λ (b : Bool). pick b (getD (a .high .now) (j - 16) 0) (getD (a .low .now) j 0)) (lt-leb 64 j q)))
+    (search needs, omega arith, omega arith, λ j q. c .low-words .ensures j q ∙ sym (ap (λ (b : Bool). pick b (getD (a .high .now) (j - highBits) 0) (getD (a .low .now) j 0)) (lt-leb wordBits j q)))
 
 sub-words : tie.Need-sub-words Inv-loop μ-loop
 sub-words c = omega arith
@@ -55,11 +57,11 @@ loop-again c =
     let a = c .before .before .before .before .args in
     let low = a .low .now in
     let high = a .high .now in
-    let x = getD high (l .i - 16) 0 in (
+    let x = getD high (l .i - highBits) 0 in (
       length-set (l .words) (l .i) x ∙ l .inv .0,
       omega arith,
       omega arith,
-      filled (keyWord low high) (l .words) (l .i) x (omega arith) (l .inv .3) (sym (ap (λ (b : Bool). pick b x (getD low (l .i) 0)) (le-leb 64 (l .i) (l .inv .1)))),
+      filled (keyWord low high) (l .words) (l .i) x (omega arith) (l .inv .3) (sym (ap (λ (b : Bool). pick b x (getD low (l .i) 0)) (le-leb wordBits (l .i) (l .inv .1)))),
     )
 
 returns : tie.Need-returns Inv-loop μ-loop

@@ -6,14 +6,15 @@ use native.Mathlib.Omega.{arith}
 use borrow.Author.Needs.{needs}
 use lib.ListN.{length, length-set}
 use Rattle.lanes.specs.Many.{blockKey}
-use Rattle.katan.specs.Within.{Entries}
+use Rattle.katan.specs.inner.Within.{Entries}
+use Rattle.katan.specs.Sizes.{wordBits}
 use Rattle.katan.proofs.Fill.{filled}
 use Rattle.lanes.proofs.KeyLanes.{low-part}
 use Rattle.lanes.proofs.keys.low_rows.Statement.{statement}
 use Rattle.lanes.proofs.keys.low_rows.Tie as tie
 
 abbrev Inv-loop : tie.InvT-loop
-Inv-loop keys n rows₀ i₀ rows i = (length rows ≡ 64) × (i ≤ n) × Entries (λ j. blockKey keys j % 2 ^ 64) i rows
+Inv-loop keys n rows₀ i₀ rows i = (length rows ≡ wordBits) × (i ≤ n) × Entries (λ j. blockKey keys j % 2 ^ wordBits) i rows
 
 abbrev μ-loop : tie.MeasureT-loop
 μ-loop keys n rows₀ i₀ rows i = n - i
@@ -43,7 +44,7 @@ loop-again c =
     let k = c .block-key in (
       length-set (l .rows) (l .i) _ ∙ l .inv .0,
       omega arith,
-      filled (λ j. blockKey keys j % 2 ^ 64) (l .rows) (l .i) (k .result .low) (omega arith) (l .inv .2) (low-part (k .result) (blockKey keys (l .i)) (k .ensures) (omega (arith, k .ok))),
+      filled (λ j. blockKey keys j % 2 ^ wordBits) (l .rows) (l .i) (k .result .low) (omega arith) (l .inv .2) (low-part (k .result) (blockKey keys (l .i)) (k .ensures) (omega (arith, k .ok))),
     )
 
 returns : tie.Need-returns Inv-loop μ-loop

@@ -1,20 +1,21 @@
 -- `lanes::keys::with_high` meets its contract. The loop's invariant: the first i rows are made.
 -- Assumes nothing.
 use mathlib.Core.Path.{_≡_, ap, _∙_}
-use Prim.Native.Nat.{ℕ, _+_, _-_, _*_, _≤_, _<_}
+use Prim.Native.Nat.{ℕ, _+_, _-_, _*_, _^_, _≤_, _<_}
 use native.Mathlib.Omega.{arith}
 use borrow.Author.Needs.{needs}
 use lib.ListN.{length, length-set, getD}
-use Rattle.katan.specs.Within.{Entries}
+use Rattle.katan.specs.inner.Within.{Entries}
+use Rattle.katan.specs.Sizes.{wordBits}
 use Rattle.katan.proofs.Fill.{filled}
 use Rattle.lanes.specs.Many.{blockKey}
-use Rattle.lanes.specs.Words.{withHigh}
+use Rattle.lanes.specs.inner.Words.{highPlace, withHigh}
 use Rattle.lanes.proofs.KeyLanes.{high-part}
 use Rattle.lanes.proofs.keys.with_high.Statement.{statement}
 use Rattle.lanes.proofs.keys.with_high.Tie as tie
 
 abbrev Inv-loop : tie.InvT-loop
-Inv-loop blocks keys n rows₀ i₀ rows i = (length rows ≡ 64) × (i ≤ n) × Entries (λ j. withHigh (blockKey keys j) (getD blocks j 0)) i rows
+Inv-loop blocks keys n rows₀ i₀ rows i = (length rows ≡ wordBits) × (i ≤ n) × Entries (λ j. withHigh (blockKey keys j) (getD blocks j 0)) i rows
 
 abbrev μ-loop : tie.MeasureT-loop
 μ-loop blocks keys n rows₀ i₀ rows i = n - i
@@ -41,7 +42,7 @@ add-rows : tie.Need-add-rows Inv-loop μ-loop
 add-rows c =
     let l = c .before .before .before .before .loop in
     let d = c .before .before .before .before .before .before .before in
-    let b : getD (d .args .blocks .now) (l .i) 0 < 281474976710656 = d .pre .3 (l .i) (omega arith) in
+    let b : getD (d .args .blocks .now) (l .i) 0 < 2 ^ highPlace = d .pre .3 (l .i) (omega arith) in
     omega (arith, c .before .wide .ensures, c .before .before .block-key .ok, b)
 
 mul-rows-3 : tie.Need-mul-rows-3 Inv-loop μ-loop
@@ -67,8 +68,8 @@ loop-again c =
     let h = c .before .wide in (
       length-set (l .rows) (l .i) _ ∙ l .inv .0,
       omega arith,
-      filled (λ j. withHigh (blockKey keys j) (getD blocks j 0)) (l .rows) (l .i) (h .result * 281474976710656 + x) (omega arith) (l .inv .2)
-          (ap (λ (y : ℕ). y * 281474976710656 + x) (h .ensures ∙ high-part (k .result) (blockKey keys (l .i)) (k .ensures) (omega (arith, k .ok)))),
+      filled (λ j. withHigh (blockKey keys j) (getD blocks j 0)) (l .rows) (l .i) (h .result * 2 ^ highPlace + x) (omega arith) (l .inv .2)
+          (ap (λ (y : ℕ). y * 2 ^ highPlace + x) (h .ensures ∙ high-part (k .result) (blockKey keys (l .i)) (k .ensures) (omega (arith, k .ok)))),
     )
 
 returns : tie.Need-returns Inv-loop μ-loop

@@ -3,7 +3,7 @@ use Prim.Native.Nat.{_-_, _≤_}
 use mathlib.Core.Path.{_≡_, refl, sym, _∙_}
 use native.Mathlib.Omega.{arith}
 use lib.ListN.{length, drop, length-set}
-use Rattle.script.specs.Pieces.{keptAll}
+use Rattle.script.specs.inner.Kept.{keptAll}
 use Rattle.script.proofs.Begun.{pending, all-full, kept-next, kept-end}
 use Rattle.script.proofs.splitting.keep.Statement.{statement}
 use Rattle.script.proofs.splitting.keep.Tie as tie

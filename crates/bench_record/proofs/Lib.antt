@@ -1,0 +1,4 @@
+pub mod Parts
+pub mod Same
+pub mod ByKind
+pub mod Codec

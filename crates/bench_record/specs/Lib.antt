@@ -1,0 +1,3 @@
+pub mod Fields
+pub mod Codec
+pub mod Checks

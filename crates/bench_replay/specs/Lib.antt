@@ -1,0 +1,4 @@
+pub mod Encoding
+pub mod Written
+pub mod inner
+pub mod Replay

@@ -1,0 +1,3 @@
+pub mod Effects
+pub mod ReadCases
+mod Values

@@ -1,0 +1,176 @@
+// The stepping bench at work: a fresh bench and link, an arrival, and a read.
+ghost use mathlib.Core.Path.{_≡_};
+ghost use mathlib.Core.List.{[], _∷_};
+ghost use Rattle.katan.specs.Checks.{value, checked, variantCheck};
+ghost use Rattle.bench.specs.Bench.{freshBench, freshLink, arriveOf, effectOf, readOf, readingAnswer};
+ghost use Rattle.bench_stepping.specs.Answers.{openOutcome, leaving};
+use crate::counted::step;
+use bench::ArrivalResult;
+use bench::Bench;
+use bench::Lane;
+use bench::LentArrivalResult;
+use bench::Link;
+use bench::ReadAnswer;
+use bench::Reading;
+use bench::Reply;
+use bench::Slot;
+use bench_checks::Decision;
+use bench_record::LENGTH;
+use katan::LANES;
+use katan::Refusal;
+use katan::RowAnswer;
+
+mod counted;
+
+pub fn fresh_link() -> Link
+    ensures { λ r. ⌜ r ≡ freshLink ⌝ }
+{
+    let bytes = [0u8; LENGTH];
+    Link {
+        last: 0,
+        bytes: bytes,
+        total: 0,
+    }
+}
+
+// A bench of empty lanes, for any variant number: check 1 of a later call refuses one that is not 1 to 6.
+pub fn fresh_bench(variant: u8) -> Bench
+    ensures { λ r. ⌜ r ≡ freshBench variant ⌝ }
+{
+    let none = Slot { lane: Lane::Empty };
+    let slots = [none; LANES];
+    Bench {
+        variant: variant,
+        slots: slots,
+    }
+}
+
+// What opening a bench answers.
+pub enum OpenAnswer {
+    Opened,
+    Refused(Refusal),
+}
+
+// A fresh bench with its link, and the answer.
+pub struct Opening {
+    pub bench: Bench,
+    pub link: Link,
+    pub answer: OpenAnswer,
+}
+
+fn variant_fault(variant: u8) -> OpenAnswer
+    ensures { λ r. ⌜ openOutcome r ≡ checked (variantCheck variant ∷ []) (value tt) ⌝ }
+{
+    match katan_variants::row_of(variant) {
+        RowAnswer::Found(_) => OpenAnswer::Opened,
+        RowAnswer::Refused(r) => OpenAnswer::Refused(r),
+    }
+}
+
+pub fn open(variant: u8) -> Opening
+    ensures { λ r. ⌜ (r .bench ≡ freshBench variant) × (r .link ≡ freshLink)
+        × (openOutcome (r .answer) ≡ checked (variantCheck variant ∷ []) (value tt)) ⌝ }
+{
+    let bench = fresh_bench(variant);
+    let link = fresh_link();
+    let answer = variant_fault(variant);
+    Opening {
+        bench: bench,
+        link: link,
+        answer: answer,
+    }
+}
+
+// An arrival, with the link by value.
+fn arrive_core(bench: Bench, link: Link, sent: &[u8]) -> ArrivalResult
+    ensures { λ r. ⌜ effectOf r ≡ arriveOf bench link (now (sent .entry)) ⌝ }
+{
+    let found = bench_checks::decided(bench, link, sent);
+    let fields = found.fields;
+    let decision = found.decision;
+    match decision {
+        Decision::Counts => {
+            let number = fields.number;
+            let after = step(bench, fields);
+            let total = after.total;
+            let bytes = bench_record::record_in(sent);
+            let next = Link {
+                last: number,
+                bytes: bytes,
+                total: total,
+            };
+            let stepped = after.bench;
+            ArrivalResult {
+                bench: stepped,
+                link: next,
+                reply: Reply::Done {
+                    number: number,
+                    total: total,
+                },
+            }
+        }
+        Decision::Repeats => ArrivalResult {
+            bench: bench,
+            link: link,
+            reply: Reply::Again {
+                number: link.last,
+                total: link.total,
+            },
+        },
+        Decision::Refused(r) => ArrivalResult {
+            bench: bench,
+            link: link,
+            reply: Reply::Refused(r),
+        },
+    }
+}
+
+// The same with the link lent: it is altered only by a record that counts.
+pub fn arrive(bench: Bench, link: &mut Link, sent: &[u8]) -> LentArrivalResult
+    ensures { λ r. ⌜ effectOf (leaving r (now (link .exit))) ≡ arriveOf bench (now (link .entry)) (now (sent .entry)) ⌝ }
+{
+    let after = arrive_core(bench, *link, sent);
+    *link = after.link;
+    LentArrivalResult {
+        bench: after.bench,
+        reply: after.reply,
+    }
+}
+
+// For a caller with the link in a local: it is lent, and comes back.
+pub fn arrive_once(bench: Bench, link: Link, sent: &[u8]) -> ArrivalResult
+    ensures { λ r. ⌜ effectOf r ≡ arriveOf bench link (now (sent .entry)) ⌝ }
+{
+    let mut lent = link;
+    let after = arrive(bench, &mut lent, sent);
+    ArrivalResult {
+        bench: after.bench,
+        link: lent,
+        reply: after.reply,
+    }
+}
+
+// Reading a lane of any number takes no number of the link.
+pub fn read(bench: Bench, lane: usize) -> ReadAnswer
+    ensures { λ r. ⌜ readingAnswer r ≡ readOf bench lane ⌝ }
+{
+    if bench_checks::bad_bench(bench) {
+        return ReadAnswer::Refused(Refusal::BadVariant);
+    }
+    if LANES <= lane {
+        return ReadAnswer::Refused(Refusal::BadLane);
+    }
+    let slots = bench.slots;
+    let slot = slots[lane];
+    let at = slot.lane;
+    match at {
+        Lane::Empty => ReadAnswer::Refused(Refusal::EmptyLane),
+        Lane::Held(h) => {
+            let position = h.position;
+            ReadAnswer::At(Reading {
+                position: position,
+                registers: h.registers,
+            })
+        }
+    }
+}

@@ -1,3 +1,0 @@
-pub mod Written
-pub mod Reading
-pub mod Reads

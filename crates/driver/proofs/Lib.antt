@@ -1,4 +1,0 @@
-mod Statuses
-mod Arrivals
-mod Replays
-mod Follows

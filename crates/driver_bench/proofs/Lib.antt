@@ -1,0 +1,4 @@
+mod Held
+mod Arrivals
+mod Replays
+mod Follows

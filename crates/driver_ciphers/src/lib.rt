@@ -1,0 +1,121 @@
+// The calls of a driver on one block, on many blocks and on the rate: numbers, and lent slices. Each returns 0 or document 01's number of the
+// first fault found, and a refused call leaves every lent output as it was.
+ghost use mathlib.Core.Path.{_≡_};
+ghost use Rattle.katan.specs.Lent.{statusOf, lentAfter};
+ghost use Rattle.katan_registers.specs.Answers.{blockOutcome};
+ghost use Rattle.lanes.specs.Many.{manyAnswer, manyOf};
+ghost use Rattle.lanes.specs.declared.Direction.the-variants.{Encrypt, Decrypt};
+ghost use Rattle.katan_rate.specs.Rate.{cyclesOf, rateOutcome};
+ghost use Rattle.driver_ciphers.specs.Calls.{word, wordCall, encryptCall, decryptCall, rateCall};
+ghost use Rattle.driver_ciphers.specs.inner.Words.{wordOutcome};
+use katan::Refusal;
+use katan_rate::RateAnswer;
+use katan_variants::refusal_number;
+use lanes::Direction;
+
+// The status of a call that is not refused.
+const ACCEPTED: u8 = 0;
+
+// The answer of a call that gives one word.
+enum WordAnswer {
+    Given(u64),
+    Refused(Refusal),
+}
+
+fn block_word(answer: katan_registers::Answer) -> WordAnswer
+    ensures { λ r. ⌜ wordOutcome r ≡ blockOutcome answer ⌝ }
+{
+    match answer {
+        katan_registers::Answer::Block(x) => WordAnswer::Given(x),
+        katan_registers::Answer::Refused(r) => WordAnswer::Refused(r),
+    }
+}
+
+fn rate_word(answer: RateAnswer) -> WordAnswer
+    ensures { λ r. ⌜ wordOutcome r ≡ rateOutcome answer ⌝ }
+{
+    match answer {
+        RateAnswer::BitsPerSecond(x) => WordAnswer::Given(x),
+        RateAnswer::Refused(r) => WordAnswer::Refused(r),
+    }
+}
+
+// Checks 1 and 2 of a call that has one word lent for its answer; then the answer.
+fn put_word(variant: u8, answer: WordAnswer, out: &mut [u64]) -> u8
+    ensures { λ r. ⌜ r ≡ statusOf (wordCall variant (now (out .entry)) (wordOutcome answer)) ⌝ }
+    ensures { λ r. ⌜ now (out .exit) ≡ lentAfter word (wordCall variant (now (out .entry)) (wordOutcome answer)) (now (out .entry)) ⌝ }
+{
+    if katan_variants::bad_variant(variant) {
+        return refusal_number(Refusal::BadVariant);
+    }
+    if out.len() != 1 {
+        return refusal_number(Refusal::BadLength);
+    }
+    match answer {
+        WordAnswer::Given(x) => {
+            out[0] = x;
+            ACCEPTED
+        }
+        WordAnswer::Refused(r) => refusal_number(r),
+    }
+}
+
+// Encrypts a block into the one word of `out`.
+pub fn encrypt(variant: u8, key: &[u8], block: u64, out: &mut [u64]) -> u8
+    ensures { λ r. ⌜ r ≡ statusOf (encryptCall variant (now (key .entry)) block (now (out .entry))) ⌝ }
+    ensures { λ r. ⌜ now (out .exit) ≡ lentAfter word (encryptCall variant (now (key .entry)) block (now (out .entry))) (now (out .entry)) ⌝ }
+{
+    let encrypted = katan_cipher::encrypt(variant, key, block);
+    put_word(variant, block_word(encrypted), out)
+}
+
+// Decrypts a block into the one word of `out`.
+pub fn decrypt(variant: u8, key: &[u8], block: u64, out: &mut [u64]) -> u8
+    ensures { λ r. ⌜ r ≡ statusOf (decryptCall variant (now (key .entry)) block (now (out .entry))) ⌝ }
+    ensures { λ r. ⌜ now (out .exit) ≡ lentAfter word (decryptCall variant (now (key .entry)) block (now (out .entry))) (now (out .entry)) ⌝ }
+{
+    let decrypted = katan_cipher::decrypt(variant, key, block);
+    put_word(variant, block_word(decrypted), out)
+}
+
+fn many(direction: Direction, variant: u8, keys: &[u8], blocks: &[u64], out: &mut [u64]) -> u8
+    ensures { λ r. ⌜ r ≡ statusOf (manyAnswer variant (now (keys .entry)) (now (blocks .entry)) (now (out .entry))) ⌝ }
+    ensures { λ r. ⌜ now (out .exit) ≡ manyOf direction variant (now (keys .entry)) (now (blocks .entry)) (now (out .entry)) ⌝ }
+{
+    match lanes::many(direction, variant, keys, blocks, out) {
+        lanes::Answer::Done => ACCEPTED,
+        lanes::Answer::Refused(r) => refusal_number(r),
+    }
+}
+
+// Encrypts 1 to 64 blocks, block i with the key in bytes 10i to 10i + 9.
+pub fn encrypt_many(variant: u8, keys: &[u8], blocks: &[u64], out: &mut [u64]) -> u8
+    ensures { λ r. ⌜ r ≡ statusOf (manyAnswer variant (now (keys .entry)) (now (blocks .entry)) (now (out .entry))) ⌝ }
+    ensures { λ r. ⌜ now (out .exit) ≡ manyOf Encrypt variant (now (keys .entry)) (now (blocks .entry)) (now (out .entry)) ⌝ }
+{
+    many(Direction::Encrypt, variant, keys, blocks, out)
+}
+
+// Decrypts 1 to 64 blocks.
+pub fn decrypt_many(variant: u8, keys: &[u8], blocks: &[u64], out: &mut [u64]) -> u8
+    ensures { λ r. ⌜ r ≡ statusOf (manyAnswer variant (now (keys .entry)) (now (blocks .entry)) (now (out .entry))) ⌝ }
+    ensures { λ r. ⌜ now (out .exit) ≡ manyOf Decrypt variant (now (keys .entry)) (now (blocks .entry)) (now (out .entry)) ⌝ }
+{
+    many(Direction::Decrypt, variant, keys, blocks, out)
+}
+
+// The cycles that a number of blocks takes.
+pub fn cycles(blocks: u32) -> u64
+    ensures { λ r. ⌜ r ≡ cyclesOf blocks ⌝ }
+{
+    katan_rate::cycles(blocks)
+}
+
+// The bit rate at a clock rate, into the one word of `out`.
+pub fn bit_rate(variant: u8, hertz: u64, out: &mut [u64]) -> u8
+    ensures { λ r. ⌜ r ≡ statusOf (rateCall variant hertz (now (out .entry))) ⌝ }
+    ensures { λ r. ⌜ now (out .exit) ≡ lentAfter word (rateCall variant hertz (now (out .entry))) (now (out .entry)) ⌝ }
+{
+    let rate = katan_rate::bit_rate(variant, hertz);
+    put_word(variant, rate_word(rate), out)
+}

@@ -1,4 +1,0 @@
-mod Runs
-pub mod Steps
-mod Fronts
-pub mod Scans

@@ -1,4 +1,0 @@
-mod Bytes
-mod Turns
-pub mod Taken
-pub mod Same

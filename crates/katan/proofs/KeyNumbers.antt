@@ -1,0 +1,18 @@
+-- A key and its number.
+-- Assumes nothing.
+use mathlib.Core.Path.{_≡_, sym, ap₂}
+use Prim.Native.Nat.{ℕ, _^_, _<_}
+use native.Mathlib.Omega.{arith}
+use lib.Pow.{high, low}
+use Rattle.katan.specs.Key.{keyNumber, keyOf}
+use Rattle.katan.specs.declared.Key.{Key}
+
+key-with : ℕ → ℕ → Key
+key-with a b = record { low = a; high = b }
+
+pub key-is : (k : Key) (n : ℕ) → k .low < 2 ^ 64 → keyNumber k ≡ n → k ≡ keyOf n
+unfolding key-with
+key-is k n h e = rw (← e) (ap₂ key-with (sym (low (k .high) 64 h)) (sym (high (k .high) 64 h)))
+
+pub number-of-key : (n : ℕ) → keyNumber (keyOf n) ≡ n
+number-of-key n = omega arith

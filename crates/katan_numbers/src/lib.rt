@@ -1,0 +1,98 @@
+// Numbers in bytes, low byte first; bits of words and keys; and whether a number fits n bits.
+ghost use mathlib.Core.Path.{_≡_};
+ghost use Prim.Native.Nat.{_<_, _^_};
+ghost use lib.Dec.{leb};
+ghost use lib.ListN.{getD, length, take};
+ghost use Rattle.katan.specs.Bit.{bit, numberIn, bytesOf};
+ghost use Rattle.katan.specs.Key.{keyOf, keyNumber};
+ghost use Rattle.katan.specs.Sizes.{keyBytes};
+use katan::Key;
+
+// The byte at a place, 0 past the end.
+pub fn byte_at(bytes: &[u8], i: usize) -> u8
+    ensures { λ r. ⌜ r ≡ getD (now (bytes .entry)) i 0 ⌝ }
+{
+    if i < bytes.len() { bytes[i] } else { 0 }
+}
+
+// The same as a word.
+fn wide_at(bytes: &[u8], i: usize) -> u64
+    ensures { λ r. ⌜ (r ≡ getD (now (bytes .entry)) i 0) × (r < 256) ⌝ }
+{
+    byte_at(bytes, i) as u64
+}
+
+// The number in the first 8 bytes.
+pub fn word_of(bytes: &[u8]) -> u64
+    ensures { λ r. ⌜ r ≡ numberIn (take 8 (now (bytes .entry))) ⌝ }
+{
+    let high = wide_at(bytes, 4)
+        + 256 * (wide_at(bytes, 5) + 256 * (wide_at(bytes, 6) + 256 * wide_at(bytes, 7)));
+    let low = wide_at(bytes, 0)
+        + 256 * (wide_at(bytes, 1) + 256 * (wide_at(bytes, 2) + 256 * wide_at(bytes, 3)));
+    high * 0x1_0000_0000 + low
+}
+
+// The key in the first 10 bytes.
+pub fn key_of(bytes: &[u8]) -> Key
+    ensures { λ r. ⌜ r ≡ keyOf (numberIn (take keyBytes (now (bytes .entry)))) ⌝ }
+{
+    let high = wide_at(bytes, 8) + 256 * wide_at(bytes, 9);
+    Key {
+        low: word_of(bytes),
+        high: high as u16,
+    }
+}
+
+// A number in as many bytes as are lent for it, low byte first: what is too large for them is cut off.
+pub fn put_number(x: u64, out: &mut [u8])
+    ensures { λ r. ⌜ now (out .exit) ≡ bytesOf (length (now (out .entry))) x ⌝ }
+{
+    let mut rest = x;
+    let mut i: usize = 0;
+    while i < out.len() {
+        out[i] = (rest % 256) as u8;
+        rest = rest / 256;
+        i += 1;
+    }
+}
+
+// A byte as an index.
+pub fn index_of(x: u8) -> usize
+    ensures { λ r. ⌜ r ≡ x ⌝ }
+{
+    x as usize
+}
+
+// Bit i of a word, 0 past its end.
+pub fn bit_of(x: u64, i: usize) -> u64
+    ensures { λ r. ⌜ r ≡ bit x i ⌝ }
+{
+    if i < katan::WORD_BITS {
+        (x >> i) & 1
+    } else {
+        0
+    }
+}
+
+// Bit i of a key, 0 past its end.
+pub fn key_bit(key: Key, i: usize) -> u64
+    ensures { λ r. ⌜ r ≡ bit (keyNumber key) i ⌝ }
+{
+    if i < katan::WORD_BITS {
+        bit_of(key.low, i)
+    } else {
+        bit_of(key.high as u64, i - katan::WORD_BITS)
+    }
+}
+
+// Whether a word is 2^n or more: check 7 of a block, and of a lane's registers.
+pub fn too_wide(n: usize, x: u64) -> bool
+    ensures { λ r. ⌜ r ≡ leb (2 ^ n) x ⌝ }
+{
+    if n < katan::WORD_BITS {
+        (1 << n) <= x
+    } else {
+        false
+    }
+}

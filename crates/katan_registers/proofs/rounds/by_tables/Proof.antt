@@ -1,0 +1,94 @@
+use mathlib.Core.Path.{ap, _∙_}
+use native.Mathlib.Omega.{arith}
+use borrow.Author.Tests.{le-leb, lt-leb}
+use Prim.Native.Nat.{_-_}
+use Rattle.katan.specs.Clock.{run, unrun, block, registers}
+use Rattle.katan.specs.Variant.{rowOf}
+use Rattle.katan.specs.declared.Row.{Row}
+use Rattle.katan.proofs.Undo.{sound}
+use Rattle.katan_registers.specs.inner.Tables.{tableInput}
+use Rattle.katan_registers.proofs.Inputs.{loaded-fits, ran-fits, unran-fits}
+use borrow.Author.Needs.{needs}
+use Rattle.katan_registers.proofs.rounds.by_tables.Statement.{statement}
+use Rattle.katan_registers.proofs.rounds.by_tables.Tie as tie
+use Rattle.katan_registers.proofs.rounds.by_tables.Reads as reads
+use Rattle.katan_registers.proofs.rounds.by_tables.Lts as lts
+use Rattle.katan_registers.proofs.rounds.block_of.Reads as block-of-reads
+use Rattle.katan_registers.proofs.rounds.registers_of.Reads as registers-of-reads
+use Rattle.katan_registers.proofs.rounds.run_of.Reads as run-of-reads
+use Rattle.katan_registers.proofs.rounds.unrun_of.Reads as unrun-of-reads
+
+registers-of-requires : tie.Need-registers-of-requires
+registers-of-requires c κs = rw (c .pre .2) (sound (c .args .variant))
+
+run-of-requires : tie.Need-run-of-requires
+run-of-requires c κs =
+    let d = c .before .before .before .before in
+    let a = d .args in
+    let s = c .before .before .before .registers-of .ensures ∙ ap (λ (r : Row). registers r (a .x)) (d .pre .2) in
+    (d .pre .0, d .pre .1, loaded-fits (rowOf (a .variant)) (sound (a .variant)) (a .x) (d .pre .3) _ s, d .pre .4, omega arith, omega arith)
+
+block-of-requires : tie.Need-block-of-requires
+block-of-requires c κs =
+    let d = c .before .before .before .before .before in
+    let a = d .args in
+    let l = c .before .before .before .before .registers-of in
+    let s = l .ensures ∙ ap (λ (r : Row). registers r (a .x)) (d .pre .2) in
+    let v = a .variant in (
+      rw (d .pre .2) (sound v),
+      rw (d .pre .2)
+          (ran-fits (rowOf v) (sound v) (a .counters .now) (a .keys .now) (d .pre .4) (a .from .0) (a .to .0 - a .from .0) (l .result) (loaded-fits (rowOf v) (sound v) (a .x) (d .pre .3) _ s) _ (c .run-of .ensures)),
+    )
+
+unrun-of-requires : tie.Need-unrun-of-requires
+unrun-of-requires c κs =
+    let d = c .before .before .before .before in
+    let a = d .args in
+    let s = c .before .before .before .registers-of .ensures ∙ ap (λ (r : Row). registers r (a .x)) (d .pre .2) in
+    (d .pre .0, d .pre .1, loaded-fits (rowOf (a .variant)) (sound (a .variant)) (a .x) (d .pre .3) _ s, d .pre .4, omega arith, omega arith)
+
+block-of-requires-2 : tie.Need-block-of-requires-2
+block-of-requires-2 c κs =
+    let d = c .before .before .before .before .before in
+    let a = d .args in
+    let l = c .before .before .before .before .registers-of in
+    let s = l .ensures ∙ ap (λ (r : Row). registers r (a .x)) (d .pre .2) in
+    let v = a .variant in (
+      rw (d .pre .2) (sound v),
+      rw (d .pre .2)
+          (unran-fits (rowOf v) (sound v) (a .counters .now) (a .keys .now) (d .pre .4) (a .to .0) (a .from .0 - a .to .0) (l .result) (loaded-fits (rowOf v) (sound v) (a .x) (d .pre .3) _ s) _ (c .unrun-of .ensures)),
+    )
+
+returns : tie.Need-returns
+returns c =
+    let d = c .before .before .before .before .before .before in
+    let a = d .args in
+    let v = a .variant in
+    let s = c .before .before .before .before .before .registers-of .ensures ∙ ap (λ (r : Row). registers r (a .x)) (d .pre .2) in
+    rw (le-leb (a .from .0) (a .to .0) (c .before .before .if1 .taken))
+    (c .block-of .ensures
+    ∙ ap (λ (r : Row). block r (c .before .run-of .result)) (d .pre .2)
+    ∙ ap (block (rowOf v)) (c .before .run-of .ensures ∙ ap (run (rowOf v) (tableInput (a .counters .now) (a .keys .now)) (a .from .0) (a .to .0 - a .from .0)) s))
+
+returns-2 : tie.Need-returns-2
+returns-2 c =
+    let d = c .before .before .before .before .before .before in
+    let a = d .args in
+    let v = a .variant in
+    let s = c .before .before .before .before .before .registers-of .ensures ∙ ap (λ (r : Row). registers r (a .x)) (d .pre .2) in
+    rw (lt-leb (a .from .0) (a .to .0) (c .before .before .if1 .left))
+    (c .block-of2 .ensures
+    ∙ ap (λ (r : Row). block r (c .before .unrun-of .result)) (d .pre .2)
+    ∙ ap (block (rowOf v)) (c .before .unrun-of .ensures ∙ ap (unrun (rowOf v) (tableInput (a .counters .now) (a .keys .now)) (a .to .0) (a .from .0 - a .to .0)) s))
+
+pub by-tables-spec : {M : Type 1} → statement M
+by-tables-spec =
+    tie.close
+    (tie.spec
+    registers-of-requires
+    run-of-requires
+    block-of-requires
+    unrun-of-requires
+    block-of-requires-2
+    returns
+    returns-2)

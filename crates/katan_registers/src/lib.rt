@@ -1,0 +1,67 @@
+// The registers of one block, from one position to another.
+ghost use mathlib.Core.Path.{_≡_};
+ghost use Prim.Native.Nat.{_<_, _≤_, _^_};
+ghost use Rattle.katan.specs.Counter.{rounds};
+ghost use Rattle.katan.specs.Key.{keyNumber};
+ghost use Rattle.katan.specs.Variant.{rowOf, widthOf};
+ghost use Rattle.katan.specs.Machine.{registersAt};
+ghost use Rattle.katan_registers.specs.Answers.{blockOutcome, registersAnswer};
+use crate::rounds::by_tables;
+use katan::Key;
+use katan::Refusal;
+use katan::RoundPosition;
+use katan::Row;
+use katan::RowAnswer;
+
+mod clock;
+mod rounds;
+
+// What a call answers: a block, or the first fault found.
+pub enum Answer {
+    Block(u64),
+    Refused(Refusal),
+}
+
+// The registers at one position of x loaded at another.
+fn registers_between(
+    variant: u8,
+    row: Row,
+    key: Key,
+    from: RoundPosition,
+    to: RoundPosition,
+    x: u64,
+) -> u64
+    requires { ⌜ (1 ≤ variant) × (variant ≤ 6) × (row ≡ rowOf variant) × (from .0 ≤ rounds) × (to .0 ≤ rounds) × (x < 2 ^ widthOf variant) ⌝ }
+    ensures { λ r. ⌜ r ≡ registersAt variant (keyNumber key) (from .0) x (to .0) ⌝ }
+{
+    let counters = katan_variants::counters();
+    let keys = katan_keys::round_keys(variant, key);
+    by_tables(variant, row, &counters, &keys, from, to, x)
+}
+
+// The registers of a block, from one position to another, either way.
+pub fn registers_at(
+    variant: u8,
+    key: Key,
+    from: RoundPosition,
+    to: RoundPosition,
+    registers: u64,
+) -> Answer
+    ensures { λ r. ⌜ blockOutcome r ≡ registersAnswer variant (keyNumber key) (from .0) (to .0) registers ⌝ }
+{
+    match katan_variants::row_of(variant) {
+        RowAnswer::Found(row) => {
+            if katan::ROUNDS < from.0 {
+                return Answer::Refused(Refusal::BadPosition);
+            }
+            if katan::ROUNDS < to.0 {
+                return Answer::Refused(Refusal::BadPosition);
+            }
+            if katan_numbers::too_wide(row.n, registers) {
+                return Answer::Refused(Refusal::BadBlock);
+            }
+            Answer::Block(registers_between(variant, row, key, from, to, registers))
+        }
+        RowAnswer::Refused(r) => Answer::Refused(r),
+    }
+}

@@ -1,3 +1,0 @@
-pub mod Xors
-pub mod KeyWords
-pub mod Lanes

@@ -1,2 +1,0 @@
-pub mod RoundWords
-pub mod Keeps

@@ -1,0 +1,3 @@
+pub mod Doubled
+pub mod KeyWords
+pub mod Lanes

@@ -1,0 +1,2 @@
+pub mod RoundWords
+pub mod inner

@@ -1,4 +1,0 @@
-pub mod Encoding
-pub mod Written
-pub mod Steps
-pub mod Replay

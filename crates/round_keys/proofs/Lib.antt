@@ -1,2 +1,0 @@
-pub mod RoundBits
-pub mod TwoWords

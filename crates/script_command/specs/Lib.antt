@@ -1,0 +1,4 @@
+pub mod Written
+pub mod Reads
+pub mod Answer
+pub mod scanner

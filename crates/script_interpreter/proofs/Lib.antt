@@ -1,0 +1,3 @@
+mod Results
+pub mod Taken
+pub mod Same

@@ -1,3 +1,0 @@
-pub mod Effects
-pub mod ByteKind
-pub mod ReadCases

@@ -1,6 +1,0 @@
-pub mod Bits
-pub mod Laws
-pub mod Again
-pub mod Passes
-pub mod Pair
-pub mod Places
