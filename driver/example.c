@@ -1,4 +1,5 @@
-// A bench is opened, a lane loaded and stepped; the answer to the step is lost, so the step is sent once more, and the lane is read.
+// A bench is opened, a lane loaded and stepped; the answer to the step is lost, so the step is sent once more, and the lane is read. Then the
+// same as one list of calls.
 #include "katan_bench.h"
 
 #include <stdio.h>
@@ -8,42 +9,87 @@
 static uint8_t bench[KATAN_BENCH_LENGTH];
 static uint8_t linked[KATAN_LINK_LENGTH];
 
-static void number(uint8_t *bytes, uint64_t x, int count) {
-    for (int i = 0; i < count; i++) bytes[i] = x >> 8 * i;
+// A number of so many bytes, low byte first.
+static void put(uint8_t *bytes, uint64_t x, int count) {
+    for (int i = 0; i < count; i++) bytes[i] = (uint8_t)(x >> 8 * i);
+}
+
+static uint64_t get(const uint8_t *bytes, int count) {
+    uint64_t x = 0;
+    for (int i = count; i-- > 0;) x = x << 8 | bytes[i];
+    return x;
+}
+
+static void load(uint8_t *record, uint32_t number, uint8_t lane, uint8_t position, const uint8_t *key, uint64_t block) {
+    memset(record, 0, KATAN_RECORD_LENGTH);
+    record[KATAN_RECORD_KIND] = KATAN_LOAD;
+    record[KATAN_RECORD_LANE] = lane;
+    record[KATAN_RECORD_COUNT] = position;
+    put(record + KATAN_RECORD_NUMBER, number, 4);
+    memcpy(record + KATAN_RECORD_KEY, key, KATAN_KEY_LENGTH);
+    put(record + KATAN_RECORD_BLOCK, block, 8);
+}
+
+static void forward(uint8_t *record, uint32_t number, uint64_t mask, uint8_t count) {
+    memset(record, 0, KATAN_RECORD_LENGTH);
+    record[KATAN_RECORD_KIND] = KATAN_FORWARD;
+    record[KATAN_RECORD_COUNT] = count;
+    put(record + KATAN_RECORD_NUMBER, number, 4);
+    put(record + KATAN_RECORD_MASK, mask, 8);
 }
 
 static void accepted(uint8_t status) {
-    if (status != 0) {
+    if (status != KATAN_OK) {
         printf("refused %d\n", status);
         exit(1);
     }
 }
 
 static void send(const uint8_t *record) {
-    uint32_t answer[3];
-    accepted(katan_arrive(bench, sizeof bench, linked, sizeof linked, record, KATAN_RECORD_LENGTH, answer, 3));
-    printf("%s %u, total %u\n", answer[0] ? "again" : "done", answer[1], answer[2]);
+    uint32_t answer[KATAN_ARRIVAL_WORDS];
+    accepted(katan_arrive(bench, sizeof bench, linked, sizeof linked, record, KATAN_RECORD_LENGTH, answer,
+                          KATAN_ARRIVAL_WORDS));
+    printf("%s %u, total %u\n", answer[0] == KATAN_AGAIN ? "again" : "done", answer[1], answer[2]);
 }
 
 int main(void) {
-    uint8_t load[KATAN_RECORD_LENGTH] = {1, 0, 0};
-    uint8_t step[KATAN_RECORD_LENGTH] = {2, 0, 5};
-    uint64_t reading[2] = {0, 0};
+    uint8_t key[KATAN_KEY_LENGTH];
+    uint8_t loading[KATAN_RECORD_LENGTH];
+    uint8_t step[KATAN_RECORD_LENGTH];
+    uint64_t reading[KATAN_READING_WORDS] = {0, 0};
 
-    accepted(katan_open(1, bench, sizeof bench, linked, sizeof linked));
+    if (katan_version() != KATAN_VERSION) {
+        printf("the archive has another version than the header\n");
+        return 1;
+    }
+    memset(key, 0xff, sizeof key);
+    load(loading, 1, 0, 0, key, 0);
+    forward(step, 2, 1, 5);
 
-    number(load + 4, 1, 4);
-    memset(load + 16, 0xff, 10);
-    send(load);
-
-    number(step + 4, 2, 4);
-    number(step + 8, 1, 8);
+    accepted(katan_open(KATAN32, bench, sizeof bench, linked, sizeof linked));
+    send(loading);
     send(step);
     send(step);
-
-    accepted(katan_read(bench, sizeof bench, 0, reading, 2));
+    accepted(katan_read(bench, sizeof bench, 0, reading, KATAN_READING_WORDS));
     printf("lane 0 at %u: %08x\n", (unsigned)reading[0], (unsigned)reading[1]);
+    printf("lane 1: status %d\n", katan_read(bench, sizeof bench, 1, reading, KATAN_READING_WORDS));
 
-    printf("lane 1: status %d\n", katan_read(bench, sizeof bench, 1, reading, 2));
+    // the load, the step and a read of lane 0, as a list
+    uint8_t calls[3 * KATAN_CALL_HEAD_LENGTH + 2 * KATAN_RECORD_LENGTH];
+    uint8_t answers[3 * KATAN_CALL_ANSWER_LENGTH];
+    uint8_t *at = calls;
+    const uint8_t *sent[] = {loading, step};
+    for (int i = 0; i < 2; i++) {
+        at[0] = KATAN_CALL_ARRIVE;
+        put(at + 1, KATAN_RECORD_LENGTH, 4);
+        memcpy(at + KATAN_CALL_HEAD_LENGTH, sent[i], KATAN_RECORD_LENGTH);
+        at += KATAN_CALL_HEAD_LENGTH + KATAN_RECORD_LENGTH;
+    }
+    at[0] = KATAN_CALL_READ;
+    put(at + 1, 0, 4);
+    accepted(katan_replay(KATAN32, calls, sizeof calls, bench, sizeof bench, answers, sizeof answers));
+    const uint8_t *last = answers + 2 * KATAN_CALL_ANSWER_LENGTH;
+    if (last[0] == KATAN_ANSWER_READ)
+        printf("in a list, lane 0 at %u: %08x\n", (unsigned)get(last + 1, 4), (unsigned)get(last + 5, 8));
     return 0;
 }

@@ -1,12 +1,20 @@
-// The calls of a driver in C or Rust, for each a function of `driver_ciphers` or `driver_bench` with the same promise. Each but `katan_cycles`
-// returns 0 or document 01's number of the first fault found, and a refused call leaves every lent output as it was.
+// The calls of a driver in C or Rust, for each a function of `driver_ciphers` or `driver_bench` with the same promise. Each but `katan_version` and
+// `katan_cycles` returns 0 or document 01's number of the first fault found, and a refused call leaves every lent output as it was.
 ghost use mathlib.Core.Path.{_≡_};
 ghost use Rattle.katan.specs.Lent.{statusOf, lentAfter};
 ghost use Rattle.lanes.specs.Many.{manyAnswer, manyOf};
 ghost use Rattle.lanes.specs.declared.Direction.the-variants.{Encrypt, Decrypt};
 ghost use Rattle.katan_rate.specs.Rate.{cyclesOf};
-ghost use Rattle.driver_ciphers.specs.Calls.{word, encryptCall, decryptCall, rateCall};
+ghost use Rattle.driver_ciphers.specs.Calls.{interfaceVersion, word, encryptCall, decryptCall, rateCall};
 ghost use Rattle.driver_bench.specs.Calls.{openCall, openedBench, openedLink, responseWords, readCall, arriveCall, arrivedBench, arrivedLink, arrivedAnswer, replayCall, replayedBench, replayedAnswers};
+
+// The version of these calls.
+#[no_mangle]
+pub extern "C" fn katan_version() -> u32
+    ensures { λ r. ⌜ r ≡ interfaceVersion ⌝ }
+{
+    driver_ciphers::version()
+}
 
 // Encrypts a block into the one word of `out`.
 #[no_mangle]

@@ -6,7 +6,7 @@ ghost use Rattle.katan_registers.specs.Answers.{blockOutcome};
 ghost use Rattle.lanes.specs.Many.{manyAnswer, manyOf};
 ghost use Rattle.lanes.specs.declared.Direction.the-variants.{Encrypt, Decrypt};
 ghost use Rattle.katan_rate.specs.Rate.{cyclesOf, rateOutcome};
-ghost use Rattle.driver_ciphers.specs.Calls.{word, wordCall, encryptCall, decryptCall, rateCall};
+ghost use Rattle.driver_ciphers.specs.Calls.{interfaceVersion, word, wordCall, encryptCall, decryptCall, rateCall};
 ghost use Rattle.driver_ciphers.specs.inner.Words.{wordOutcome};
 use katan::Refusal;
 use katan_rate::RateAnswer;
@@ -15,6 +15,9 @@ use lanes::Direction;
 
 // The status of a call that is not refused.
 const ACCEPTED: u8 = 0;
+
+// The version of the calls: their parameters, numbers and layouts.
+const VERSION: u32 = 1;
 
 // The answer of a call that gives one word.
 enum WordAnswer {
@@ -118,4 +121,11 @@ pub fn bit_rate(variant: u8, hertz: u64, out: &mut [u64]) -> u8
 {
     let rate = katan_rate::bit_rate(variant, hertz);
     put_word(variant, rate_word(rate), out)
+}
+
+// The version of the calls.
+pub fn version() -> u32
+    ensures { λ r. ⌜ r ≡ interfaceVersion ⌝ }
+{
+    VERSION
 }

@@ -18,6 +18,19 @@ use std::fmt;
 
 pub mod raw;
 
+/// The version of the calls that this crate was written for: it rises with every change of a call's
+/// parameters, its numbers or a layout.
+pub const VERSION: u32 = 1;
+
+/// The version of the calls that the archive was built with.
+///
+/// ```
+/// assert_eq!(katan_bench::version(), katan_bench::VERSION);
+/// ```
+pub fn version() -> u32 {
+    raw::version()
+}
+
 /// Why a call was turned away, each with its number. No call gives 13, which is for a line of a script.
 #[derive(Clone, Copy, Debug, PartialEq, Eq)]
 #[repr(u8)]
@@ -212,7 +225,8 @@ impl Bench {
         checked(status, fresh)
     }
 
-    /// A bench and link that were stored. Whatever the bytes hold, each call checks them.
+    /// A bench and link that were stored. Whatever the bench's bytes hold, each call checks them. A
+    /// link is taken at its word: hand in one that an earlier call left.
     pub fn from_bytes(bench: [u8; raw::BENCH_LENGTH], link: [u8; raw::LINK_LENGTH]) -> Bench {
         Bench { bench, link }
     }

@@ -12,6 +12,7 @@ pub const ANSWER_LENGTH: usize = 13;
 
 mod c {
     extern "C" {
+        pub fn katan_version() -> u32;
         pub fn katan_encrypt(
             variant: u8,
             key: *const u8,
@@ -86,6 +87,11 @@ mod c {
 
 // SAFETY, of every block below: a slice's pointer and length name memory that is valid for the call;
 // shared slices are only read, and exclusive ones overlap nothing else. The functions keep no pointer.
+
+/// The version that the archive was built with.
+pub fn version() -> u32 {
+    unsafe { c::katan_version() }
+}
 
 pub fn encrypt(variant: u8, key: &[u8], block: u64, out: &mut [u64]) -> u8 {
     unsafe {

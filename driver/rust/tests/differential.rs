@@ -566,7 +566,7 @@ fn replays_refused() {
         match random.below(3) {
             _ if !spoilt => {}
             0 => bytes.push(1),
-            1 => bytes.extend([0, 0, 0, 0, 0]),
+            1 => bytes.extend([one_of(&mut random, &[0, 3, 4, 255]), 0, 0, 0, 0]),
             _ => bytes.extend([1, 1, 0, 0, 0]),
         }
         let out_length = if bad_room { room + 1 } else { room };
