@@ -80,16 +80,17 @@ int main(void) {
     uint8_t *at = calls;
     const uint8_t *sent[] = {loading, step};
     for (int i = 0; i < 2; i++) {
-        at[0] = KATAN_CALL_ARRIVE;
-        put(at + 1, KATAN_RECORD_LENGTH, 4);
+        at[KATAN_CALL_KIND] = KATAN_CALL_ARRIVE;
+        put(at + KATAN_CALL_NUMBER, KATAN_RECORD_LENGTH, 4);
         memcpy(at + KATAN_CALL_HEAD_LENGTH, sent[i], KATAN_RECORD_LENGTH);
         at += KATAN_CALL_HEAD_LENGTH + KATAN_RECORD_LENGTH;
     }
-    at[0] = KATAN_CALL_READ;
-    put(at + 1, 0, 4);
+    at[KATAN_CALL_KIND] = KATAN_CALL_READ;
+    put(at + KATAN_CALL_NUMBER, 0, 4);
     accepted(katan_replay(KATAN32, calls, sizeof calls, bench, sizeof bench, answers, sizeof answers));
     const uint8_t *last = answers + 2 * KATAN_CALL_ANSWER_LENGTH;
-    if (last[0] == KATAN_ANSWER_READ)
-        printf("in a list, lane 0 at %u: %08x\n", (unsigned)get(last + 1, 4), (unsigned)get(last + 5, 8));
+    if (last[KATAN_ANSWER_KIND] == KATAN_ANSWER_READ)
+        printf("in a list, lane 0 at %u: %08x\n", (unsigned)get(last + KATAN_ANSWER_NUMBER, 4),
+               (unsigned)get(last + KATAN_ANSWER_VALUE, 8));
     return 0;
 }
