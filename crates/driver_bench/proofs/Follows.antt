@@ -1,23 +1,62 @@
--- THEOREMS: a driver's arrivals and reads are those of a list.
+-- THEOREMS: a driver's memory is opened as the fresh bench and link, and its arrivals and reads are those of a list.
 -- Assumes nothing.
 use mathlib.Core.Path.{_≡_, refl, sym, ap, _∙_}
 use mathlib.Core.Bool.{Bool, true, false}
 use mathlib.Core.List.{List, [], _∷_, _++_, map}
-use Prim.Native.Nat.{ℕ}
-use lib.ListN.{length, getD}
+use Prim.Native.Nat.{ℕ, zero, suc, _≤_}
+use native.Mathlib.Omega.{arith}
+use lib.ListN.{length, getD, replicate, length-replicate}
+use borrow.Author.Tests.{eq-eqb}
+use Rattle.katan.specs.Bit.{AreBytes}
 use Rattle.katan.specs.Checks.{Outcome, value, refused, sizeCheck}
+use Rattle.katan.specs.Lent.{statusOf, lentAfter}
+use Rattle.katan.specs.Sizes.{laneCount}
 use Rattle.katan.proofs.Checked.{fault-first}
+use Rattle.katan.proofs.Variants.{variant-sound}
 use Rattle.bench.specs.Calls.{Answer}
 use Rattle.bench_record.specs.Fields.{recordLength, decode}
 use Rattle.bench_record.specs.Checks.{fieldChecks, laneCheck}
 use Rattle.bench.specs.Checks.{emptyLane, turnChecks, emptyCheck, arrivalChecks, readChecks, Turn, counts, repeats, turnOf, decision, laneAnswer, readOutcome}
-use Rattle.bench.specs.Bench.{slotView, benchView, countedEffect, effectAs, arriveOf, readOf}
+use Rattle.bench.specs.Bench.{emptySlot, freshBench, freshLink, slotView, benchView, countedEffect, effectAs, arriveOf, readOf}
 use Rattle.driver_layout.specs.Layout.{benchLength, linkLength, benchIn, linkIn, benchBytes, linkBytes}
-use Rattle.driver_bench.specs.Calls.{arrivalWords, readingWords, heldCheck, ifCounted, readCall, arriveEffect, arriveCall}
-use Rattle.driver_layout.specs.ReadBack.{BenchFits, LinkFits}
-use Rattle.driver_bench.specs.Follows.{EveryArrival, EveryRead}
-use borrow.Author.Tests.{eq-eqb}
+use Rattle.driver_bench.specs.Calls.{openCall, openedBench, openedLink, arrivalWords, readingWords, heldCheck, ifCounted, readCall, arriveEffect, arriveCall}
+use Rattle.driver_layout.specs.ReadBack.{SlotsFit, BenchFits, LinkFits}
 use Rattle.driver_layout.proofs.ReadBack.{bench-read-back, link-read-back}
+use Rattle.driver_layout.proofs.Fits.{bench-in-fits, link-in-fits}
+use Rattle.driver_bench.specs.Follows.{EveryOpening, Arrives, EveryArrival, EveryRead}
+use Rattle.driver_bench.proofs.Fits.{effect-fits}
+
+-- ---- opening
+
+fresh-lanes : (n : ℕ) → SlotsFit (replicate n emptySlot)
+fresh-lanes zero = tt
+fresh-lanes (suc n) = (tt, fresh-lanes n)
+
+pub fresh-bench-fits : (v : ℕ) → BenchFits (freshBench v)
+fresh-bench-fits v = record { all-lanes = length-replicate laneCount emptySlot; lanes-fit = fresh-lanes laneCount }
+
+pub fresh-link-fits : LinkFits freshLink
+fresh-link-fits = record { last-fits = omega arith; total-fits = omega arith; whole-record = refl }
+
+module _ (v : ℕ) (least : 1 ≤ v) (most : v ≤ 6) (bench link : List ℕ) (n : length bench ≡ benchLength) (m : length link ≡ linkLength) where
+  opened : openCall v bench link ≡ value tt
+  opened = rw (variant-sound v least most, eq-eqb _ _ n, eq-eqb _ _ m)
+
+  pub opened-bench : openedBench v bench link ≡ benchBytes (freshBench v) bench
+  opened-bench = ap (λ (o : Outcome (Unit {0})). lentAfter (λ x. benchBytes (freshBench v) bench) o bench) opened
+
+  pub opened-link : openedLink v bench link ≡ linkBytes freshLink
+  opened-link = ap (λ (o : Outcome (Unit {0})). lentAfter (λ x. linkBytes freshLink) o link) opened
+
+pub every-opening : EveryOpening
+every-opening v least most bench link n m =
+    record {
+      accepted = ap statusOf (opened v least most bench link n m);
+      fresh-bench = ap benchIn (opened-bench v least most bench link n m) ∙ bench-read-back (freshBench v) bench (fresh-bench-fits v) n;
+      fresh-link = ap linkIn (opened-link v least most bench link n m) ∙ link-read-back freshLink fresh-link-fits;
+    }
+
+-- ---- an arrival
 
 module _ (bench link sent : List ℕ) where
   -- check 1 comes first in a list's arrival too
@@ -48,16 +87,24 @@ module _ (bench link sent : List ℕ) where
   same answer n m k true e = rw (eq-eqb _ _ n, e) (sym (refused-1 e))
   same answer n m k false e = rw (eq-eqb _ _ n, e, eq-eqb _ _ m, eq-eqb _ _ k)
 
-pub every-arrival : EveryArrival
-every-arrival bench link sent answer n m k f g =
+-- where the bench and the link that the memory says fit
+pub arrives : (bench link sent answer : List ℕ) → length bench ≡ benchLength → length link ≡ linkLength → length answer ≡ arrivalWords
+    → BenchFits (benchIn bench) → LinkFits (linkIn link) → AreBytes sent → Arrives bench link sent answer
+arrives bench link sent answer n m k f g h =
     let e = arriveEffect bench link sent answer in
     let s = same bench link sent answer n m k (heldCheck (benchIn bench) .fault) refl in
-    let l = effect-leaves bench link sent n f g in
+    let fits = effect-fits (benchIn bench) (linkIn link) sent f g h in
+    let l = effect-leaves bench link sent n (fits .0) (fits .1) in
     record {
       same-answer = s;
       same-bench = ap (λ (o : Answer). benchIn (ifCounted o (benchBytes (e .bench) bench) bench)) s ∙ l .0;
       same-link = ap (λ (o : Answer). linkIn (ifCounted o (linkBytes (e .link)) link)) s ∙ l .1;
     }
+
+pub every-arrival : EveryArrival
+every-arrival bench link sent answer n m k f g h = arrives bench link sent answer n m k (bench-in-fits bench f) (link-in-fits link g) h
+
+-- ---- a read
 
 read-refused : (bench : List ℕ) (i : ℕ) → heldCheck (benchIn bench) .fault ≡ true → readOf (benchIn bench) i ≡ refused 1
 unfolding readOf readOutcome readChecks

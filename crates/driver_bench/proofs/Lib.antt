@@ -1,4 +1,6 @@
 mod Held
 mod Arrivals
 mod Replays
+mod Fits
 mod Follows
+mod Memory

@@ -1,25 +1,35 @@
--- A driver's calls are the calls of a list (bench's `benchTransition`): each finds the state that its memory says, answers as the list's call does,
--- and leaves memory that says the state that the call leaves.
+-- A driver's calls one by one, each on any memory of the right lengths: opening gives memory that says the fresh bench and link; an arrival and a read
+-- find the state that their memory says, answer as the call of a list does (bench's `benchTransition`), and leave memory that says the state that it leaves.
 -- Assumes nothing.
-use Prim.Native.Nat.{ℕ}
+use Prim.Native.Nat.{ℕ, _≤_}
 use mathlib.Core.Path.{_≡_}
 use mathlib.Core.List.{List}
 use lib.ListN.{length}
-use Rattle.bench.specs.Bench.{readOf}
+use Rattle.katan.specs.Bit.{AreBytes}
+use Rattle.katan.specs.Lent.{statusOf}
+use Rattle.bench.specs.Bench.{freshBench, freshLink, readOf}
 use Rattle.driver_layout.specs.Layout.{benchLength, linkLength, benchIn, linkIn}
-use Rattle.driver_bench.specs.Calls.{arrivalWords, readingWords, readCall, arriveEffect, arriveCall, arrivedBench, arrivedLink}
-use Rattle.driver_layout.specs.ReadBack.{BenchFits, LinkFits}
+use Rattle.driver_bench.specs.Calls.{openCall, openedBench, openedLink, arrivalWords, readingWords, readCall, arriveEffect, arriveCall, arrivedBench, arrivedLink}
+
+pub record Opens (v : ℕ) (bench link : List ℕ) : Type 0 where
+  pub accepted : statusOf (openCall v bench link) ≡ 0
+  pub fresh-bench : benchIn (openedBench v bench link) ≡ freshBench v
+  pub fresh-link : linkIn (openedLink v bench link) ≡ freshLink
+
+-- whatever the memory held
+abbrev pub EveryOpening : Type 0
+EveryOpening = (v : ℕ) → 1 ≤ v → v ≤ 6 → (bench link : List ℕ) → length bench ≡ benchLength → length link ≡ linkLength → Opens v bench link
 
 pub record Arrives (bench link sent answer : List ℕ) : Type 0 where
   pub same-answer : arriveCall bench link sent answer ≡ arriveEffect bench link sent answer .answer
   pub same-bench : benchIn (arrivedBench bench link sent answer) ≡ arriveEffect bench link sent answer .bench
   pub same-link : linkIn (arrivedLink bench link sent answer) ≡ arriveEffect bench link sent answer .link
 
+-- the memory and the record are bytes
 abbrev pub EveryArrival : Type 0
 EveryArrival =
     (bench link sent answer : List ℕ) → length bench ≡ benchLength → length link ≡ linkLength → length answer ≡ arrivalWords
-    → BenchFits (arriveEffect bench link sent answer .bench) → LinkFits (arriveEffect bench link sent answer .link)
-    → Arrives bench link sent answer
+    → AreBytes bench → AreBytes link → AreBytes sent → Arrives bench link sent answer
 
 abbrev pub EveryRead : Type 0
 EveryRead = (bench : List ℕ) (i : ℕ) (answer : List ℕ) → length bench ≡ benchLength → length answer ≡ readingWords → readCall bench i answer ≡ readOf (benchIn bench) i

@@ -2,3 +2,4 @@ mod Turns
 pub mod Words
 pub mod Fitted
 pub mod ReadBack
+pub mod Fits

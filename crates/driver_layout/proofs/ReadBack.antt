@@ -1,8 +1,8 @@
--- THEOREMS: a bench or a link written down is read back as it was.
+-- THEOREMS: a bench or a link written down is read back as it was. It takes as many bytes as there were.
 -- Assumes nothing.
 use mathlib.Core.Path.{_≡_, refl, sym, ap, ap₂, _∙_}
 use mathlib.Core.List.{List, [], _∷_, _++_, append-assoc}
-use Prim.Native.Nat.{ℕ, _+_, _-_, _*_, _^_, _<_}
+use Prim.Native.Nat.{ℕ, suc, _+_, _-_, _*_, _^_, _<_}
 use native.Mathlib.Omega.{arith}
 use lib.ListN.{length, take, drop, length-append, length-drop, length-set}
 use lib.Seq.{length-take-le, take-all, take-at, drop-at, drop-drop}
@@ -16,11 +16,12 @@ use Rattle.bench.specs.declared.Loaded.{Loaded}
 use Rattle.bench.specs.declared.Lane.{Lane}
 use Rattle.bench.specs.declared.Lane.the-variants.{Empty, Held}
 use Rattle.bench.specs.declared.Slot.{Slot}
+use Rattle.bench.specs.declared.Bench.{Bench}
 use Rattle.bench.specs.declared.Link.{Link}
 use Rattle.katan.proofs.KeyNumbers.{key-is}
 use Rattle.katan.specs.Bit.{bytesOf}
-use Rattle.driver_layout.specs.Layout.{wordBytes, numberBytes, keyStart, registersStart, laneLength, lanesStart, lastStart, totalStart, recordStart, loadedIn, laneIn, slotsIn, benchIn, linkIn, loadedBytes, laneBytes, slotBytes, benchBytes, linkBytes}
-use Rattle.driver_layout.specs.ReadBack.{LaneFits, SlotsFit, BenchReadBack, LinkReadBack}
+use Rattle.driver_layout.specs.Layout.{wordBytes, numberBytes, keyStart, registersStart, laneLength, lanesStart, benchLength, lastStart, totalStart, recordStart, linkLength, loadedIn, laneIn, slotsIn, benchIn, linkIn, loadedBytes, laneBytes, slotBytes, benchBytes, linkBytes}
+use Rattle.driver_layout.specs.ReadBack.{LaneFits, SlotsFit, BenchFits, LinkFits, BenchReadBack, LinkReadBack}
 use Rattle.katan.proofs.Numbers.{length-bytes, number-bytes}
 use Rattle.driver_layout.proofs.Turns.{bench-with}
 
@@ -60,28 +61,55 @@ lane-back (Held h) old e f = loaded-lane h (loaded-back h f)
 
 -- ---- the lanes
 
+-- the bytes of the first lane, and of those after it
+module _ (n : ℕ) (old : List ℕ) (e : length old ≡ laneLength * suc n) where
+  of-first : length (take laneLength old) ≡ laneLength
+  of-first = length-take-le laneLength old (omega arith)
+
+  of-others : length (drop laneLength old) ≡ laneLength * n
+  of-others = omega (arith, length-drop laneLength old)
+
 slots-back : (ss : List Slot) (old : List ℕ) → length old ≡ laneLength * length ss → SlotsFit ss → slotsIn (length ss) (slotBytes ss old) ≡ ss
 unfolding slotsIn slotBytes
 slots-back [] old e f = refl
 slots-back (s ∷ ss) old e f =
-    let n : length (take laneLength old) ≡ laneLength = length-take-le laneLength old (omega arith) in
+    let n = of-first (length ss) old e in
     let x = laneBytes (s .lane) (take laneLength old) in
     let rest = slotBytes ss (drop laneLength old) in
     let m = length-lane (s .lane) (take laneLength old) n in
-    let r : length (drop laneLength old) ≡ laneLength * length ss = omega (arith, length-drop laneLength old) in
-    rw (take-at x rest laneLength m, drop-at x rest laneLength m, lane-back (s .lane) (take laneLength old) n (f .0), slots-back ss (drop laneLength old) r (f .1))
+    rw (take-at x rest laneLength m, drop-at x rest laneLength m, lane-back (s .lane) (take laneLength old) n (f .0), slots-back ss (drop laneLength old) (of-others (length ss) old e) (f .1))
+
+length-slots : (ss : List Slot) (old : List ℕ) → length old ≡ laneLength * length ss → length (slotBytes ss old) ≡ laneLength * length ss
+unfolding slotBytes
+length-slots [] old e = refl
+length-slots (s ∷ ss) old e =
+    let first = length-lane (s .lane) (take laneLength old) (of-first (length ss) old e) in
+    let others = length-slots ss (drop laneLength old) (of-others (length ss) old e) in
+    simp length-append (omega arith)
+
+module _ (b : Bench) (old : List ℕ) (f : BenchFits b) (e : length old ≡ benchLength) where
+  all-bytes : length (drop lanesStart old) ≡ laneLength * length (b .slots)
+  all-bytes = omega (arith, length-drop lanesStart old, f .all-lanes)
+
+  -- a bench written down is as long as it was
+  pub length-bench : length (benchBytes b old) ≡ benchLength
+  unfolding benchBytes
+  length-bench = omega (arith, length-slots (b .slots) (drop lanesStart old) all-bytes, f .all-lanes)
 
 pub bench-read-back : BenchReadBack
 unfolding benchIn benchBytes
 bench-read-back b old f e =
-    let r : length (drop lanesStart old) ≡ laneLength * length (b .slots) = omega (arith, length-drop lanesStart old, f .all-lanes) in
     ap (λ (ss : List Slot). bench-with (b .variant) ss)
-    (ap (λ (n : ℕ). slotsIn n (slotBytes (b .slots) (drop lanesStart old))) (sym (f .all-lanes)) ∙ slots-back (b .slots) (drop lanesStart old) r (f .lanes-fit))
+    (ap (λ (n : ℕ). slotsIn n (slotBytes (b .slots) (drop lanesStart old))) (sym (f .all-lanes)) ∙ slots-back (b .slots) (drop lanesStart old) (all-bytes b old f e) (f .lanes-fit))
 
 -- ---- the link
 
 abbrev link-with : (last total : ℕ) → List ℕ → Link
 link-with x y s = record { last = x; total = y; bytes = s }
+
+pub length-link : (l : Link) → LinkFits l → length (linkBytes l) ≡ linkLength
+unfolding linkBytes
+length-link l f = simp (length-append, length-bytes) (omega (arith, f .whole-record))
 
 pub link-read-back : LinkReadBack
 unfolding linkIn linkBytes

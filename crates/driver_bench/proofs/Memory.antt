@@ -1,0 +1,131 @@
+-- THEOREM: demand 3 in a driver's own memory.
+-- Assumes nothing.
+use mathlib.Core.Path.{_≡_, refl, ap, ap₂, _∙_}
+use mathlib.Core.List.{List, [], _∷_, map, zipWith}
+use Prim.Native.Nat.{ℕ, _≤_}
+use lib.ListN.{length, getD}
+use Rattle.katan.specs.Bit.{AreBytes}
+use Rattle.katan.specs.Checks.{value, refused}
+use Rattle.bench.specs.declared.Bench.{Bench}
+use Rattle.bench.specs.declared.Link.{Link}
+use Rattle.bench.specs.Calls.{done, again, at, Answer, stateAfter, answersTo}
+use Rattle.bench.specs.Bench.{freshBench, freshLink, emptySlot, slotView, State, freshState, benchTransition}
+use Rattle.bench.proofs.Lists.{every-list}
+use Rattle.driver_layout.specs.Layout.{benchLength, linkLength, benchIn, linkIn}
+use Rattle.driver_layout.specs.ReadBack.{BenchFits, LinkFits}
+use Rattle.driver_layout.proofs.ReadBack.{length-bench, length-link}
+use Rattle.driver_bench.specs.Calls.{arrivalWords, readingWords, ifCounted, arriveCall}
+use Rattle.driver_bench.specs.Follows.{Opens}
+use Rattle.driver_bench.specs.Memory.{Memory, openedMemory, DriverCall, arrive, read, lentFor, Returned, driverTransition, memoryAfter, returnsTo, WellLent, callOf, returnedAs, EveryListInMemory}
+use Rattle.driver_bench.proofs.Fits.{effect-fits}
+use Rattle.driver_bench.proofs.Follows.{fresh-bench-fits, fresh-link-fits, opened-bench, opened-link, every-opening, arrives, every-read}
+
+-- ---- what memory keeps to, call by call
+
+-- the state that it says
+abbrev state-of : Bench → Link → State
+state-of b l = record { bench = b; link = l }
+
+abbrev stateIn : Memory → State
+stateIn m = state-of (benchIn (m .bench)) (linkIn (m .link))
+
+record Sound (m : Memory) : Type 0 where
+  bench-size : length (m .bench) ≡ benchLength
+  link-size : length (m .link) ≡ linkLength
+  bench-fits : BenchFits (benchIn (m .bench))
+  link-fits : LinkFits (linkIn (m .link))
+
+-- a call is a list's call on that state
+record SameCall (m : Memory) (c : DriverCall) : Type 0 where
+  return : driverTransition m c .1 ≡ returnedAs (benchTransition (stateIn m) (callOf c) .1) (lentFor c)
+  state : stateIn (driverTransition m c .0) ≡ benchTransition (stateIn m) (callOf c) .0
+  next : Sound (driverTransition m c .0)
+
+-- ---- an arrival and a read
+
+either-size : (n : ℕ) (a : Answer) (new old : List ℕ) → length new ≡ n → length old ≡ n → length (ifCounted a new old) ≡ n
+either-size n (value (done x t)) new old e f = e
+either-size n (value (again x t)) new old e f = f
+either-size n (value (at r)) new old e f = f
+either-size n (refused k) new old e f = f
+
+module _ (m : Memory) (k : Sound m) where
+  same-arrival : (sent answer : List ℕ) → AreBytes sent → length answer ≡ arrivalWords → SameCall m (arrive sent answer)
+  unfolding driverTransition benchTransition
+  same-arrival sent answer h n =
+      let a = arrives (m .bench) (m .link) sent answer (k .bench-size) (k .link-size) n (k .bench-fits) (k .link-fits) h in
+      let f = effect-fits (benchIn (m .bench)) (linkIn (m .link)) sent (k .bench-fits) (k .link-fits) h in
+      let o = arriveCall (m .bench) (m .link) sent answer in
+      record {
+        return = ap (λ (x : Answer). returnedAs x answer) (a .same-answer);
+        state = ap₂ state-of (a .same-bench) (a .same-link);
+        next =
+            record {
+              bench-size = either-size benchLength o _ (m .bench) (length-bench _ (m .bench) (f .0) (k .bench-size)) (k .bench-size);
+              link-size = either-size linkLength o _ (m .link) (length-link _ (f .1)) (k .link-size);
+              bench-fits = rw (a .same-bench) (f .0);
+              link-fits = rw (a .same-link) (f .1);
+            };
+      }
+
+  same-read : (lane : ℕ) (answer : List ℕ) → length answer ≡ readingWords → SameCall m (read lane answer)
+  unfolding driverTransition benchTransition
+  same-read lane answer n =
+      record { return = ap (λ (x : Answer). returnedAs x answer) (every-read (m .bench) lane answer (k .bench-size) n); state = refl; next = k }
+
+-- ---- a list of calls
+
+record SameCalls (m : Memory) (calls : List DriverCall) : Type 0 where
+  returns : returnsTo m calls ≡ zipWith returnedAs (answersTo benchTransition (stateIn m) (map callOf calls)) (map lentFor calls)
+  state : stateIn (memoryAfter m calls) ≡ stateAfter benchTransition (stateIn m) (map callOf calls)
+
+one-more : (m : Memory) (c : DriverCall) (calls : List DriverCall) → SameCall m c → SameCalls (driverTransition m c .0) calls → SameCalls m (c ∷ calls)
+unfolding memoryAfter returnsTo stateAfter answersTo zipWith
+one-more m c calls a r =
+    let from : (x : State) → List Returned = λ x. zipWith returnedAs (answersTo benchTransition x (map callOf calls)) (map lentFor calls) in
+    record {
+      returns = ap₂ _∷_ (a .return) (r .returns ∙ ap from (a .state));
+      state = r .state ∙ ap (λ (x : State). stateAfter benchTransition x (map callOf calls)) (a .state);
+    }
+
+same-calls : (m : Memory) → Sound m → (calls : List DriverCall) → WellLent calls → SameCalls m calls
+unfolding memoryAfter returnsTo stateAfter answersTo zipWith
+same-calls m k [] w = record { returns = refl; state = refl }
+same-calls m k (arrive sent answer ∷ calls) w =
+    let a = same-arrival m k sent answer (w .0) (w .1) in
+    one-more m (arrive sent answer) calls a (same-calls (driverTransition m (arrive sent answer) .0) (a .next) calls (w .2))
+same-calls m k (read lane answer ∷ calls) w =
+    let a = same-read m k lane answer (w .0) in
+    one-more m (read lane answer) calls a (same-calls (driverTransition m (read lane answer) .0) (a .next) calls (w .1))
+
+-- ---- from opened memory
+
+module _ (v : ℕ) (least : 1 ≤ v) (most : v ≤ 6) (before : Memory) (n : length (before .bench) ≡ benchLength) (m : length (before .link) ≡ linkLength) where
+  opens : Opens v (before .bench) (before .link)
+  opens = every-opening v least most (before .bench) (before .link) n m
+
+  opened-fresh : stateIn (openedMemory v before) ≡ freshState v
+  unfolding freshState
+  opened-fresh = ap₂ state-of (opens .fresh-bench) (opens .fresh-link)
+
+  opened-sound : Sound (openedMemory v before)
+  opened-sound =
+      record {
+        bench-size = ap length (opened-bench v least most (before .bench) (before .link) n m) ∙ length-bench (freshBench v) (before .bench) (fresh-bench-fits v) n;
+        link-size = ap length (opened-link v least most (before .bench) (before .link) n m) ∙ length-link freshLink fresh-link-fits;
+        bench-fits = rw (opens .fresh-bench) (fresh-bench-fits v);
+        link-fits = rw (opens .fresh-link) fresh-link-fits;
+      }
+
+pub every-list-in-memory : EveryListInMemory
+every-list-in-memory v least most before n m calls w =
+    let r = same-calls (openedMemory v before) (opened-sound v least most before n m) calls w in
+    let l = every-list v least most (map callOf calls) in
+    let fresh = opened-fresh v least most before n m in
+    let answered : List Answer → List Returned = λ xs. zipWith returnedAs xs (map lentFor calls) in
+    record {
+      same-returns = r .returns ∙ ap (λ (x : State). answered (answersTo benchTransition x (map callOf calls))) fresh ∙ ap answered (l .same-answers);
+      same-lanes = λ i lt.
+          ap (λ (x : State). slotView (getD (x .bench .slots) i emptySlot)) (r .state ∙ ap (λ (x : State). stateAfter benchTransition x (map callOf calls)) fresh)
+          ∙ l .same-lanes i lt;
+    }
