@@ -3,7 +3,7 @@
 use mathlib.Core.Path.{_≡_, refl, ap, _∙_}
 use mathlib.Core.Bool.{Bool, true, false}
 use mathlib.Core.List.{List, [], _∷_, map}
-use Prim.Native.Nat.{ℕ, zero, suc, _+_, _*_, _/_, _%_, _^_, _<_, _≤_}
+use Prim.Native.Nat.{ℕ, zero, suc, _*_, _/_, _%_, _^_, _≤_}
 use native.Mathlib.Nat.{mul-le-mul-right}
 use native.Mathlib.Omega.{arith}
 use lib.Dec.{eqb}
@@ -13,13 +13,12 @@ use borrow.Author.Tests.{leb-false}
 use Rattle.katan.specs.Bit.{pick, AreBytes}
 use Rattle.katan.specs.Key.{keyNumber}
 use Rattle.katan.specs.Variant.{widthOf}
-use Rattle.katan.specs.Machine.{registersAt}
 use Rattle.katan.specs.Checks.{Outcome, value, refused, variantCheck, positionCheck, blockCheck}
 use Rattle.katan.proofs.Undo.{sound}
 use Rattle.katan.proofs.Positions.{at-in}
 use Rattle.bench_record.specs.declared.Record.{Record}
 use Rattle.bench_record.specs.Fields.{Kind, load, forward, back, clear, other, decode, kind}
-use Rattle.bench_record.proofs.Parts.{number-below, key-below}
+use Rattle.bench_record.proofs.Parts.{number-below, key-below, block-below}
 use Rattle.bench.specs.declared.Loaded.{Loaded}
 use Rattle.bench.specs.declared.Lane.{Lane}
 use Rattle.bench.specs.declared.Lane.the-variants.{Empty, Held}
@@ -37,15 +36,11 @@ use Rattle.driver_layout.specs.ReadBack.{LaneFits, SlotsFit, BenchFits, LinkFit
 -- ---- a lane in which check 1 finds no fault, and its step
 
 module _ (v : ℕ) where
-  -- a number below 2^n is a word
-  word : (x : ℕ) → x < 2 ^ widthOf v → x < 2 ^ 64
-  word x h = omega (arith, pow-mono (sound v .n-fits))
-
   carried : (h : Loaded) (p : ℕ) → laneFault v (laneView (Held h)) ≡ false → LaneFits (Held h) → LaneFits (Held (loadedAt v h p))
   unfolding laneFault loadedAt
   carried h p e f =
       let small = leb-false (2 ^ widthOf v) (h .registers) (neither (positionCheck (h .position .0) .fault) (blockCheck v (h .registers) .fault) e .1) in
-      (f .0, f .1, word _ (at-in v (keyNumber (h .key)) (h .position .0) (h .registers) p small))
+      (f .0, f .1, omega (arith, at-in v (keyNumber (h .key)) (h .position .0) (h .registers) p small, pow-mono (sound v .n-fits)))
 
   -- a step that leaves such a lane so that it fits
   abbrev Keeps : (Lane → Lane) → Type 0
@@ -134,9 +129,9 @@ counted-fit v back r ss h e f = steps-fit v (backLane v (r .count)) (back-keeps 
 counted-fit v clear r ss h e f = steps-fit v (λ l. Empty) (λ l d g. tt) (r .mask) ss e f
 counted-fit v other r ss h e f = f
 
-load-fits : (v : ℕ) (s : List ℕ) → AreBytes s → decode s .block < 2 ^ widthOf v → LaneFits (Held (loadedBy (decode s)))
+load-fits : (s : List ℕ) → AreBytes s → LaneFits (Held (loadedBy (decode s)))
 unfolding loadedBy
-load-fits v s h b = (omega arith, omega (arith, key-below s h), word v _ b)
+load-fits s h = (omega arith, omega (arith, key-below s h), block-below s h)
 
 module _ (b : Bench) (l : Link) (s : List ℕ) (f : BenchFits b) (g : LinkFits l) (h : AreBytes s) where
   as-decided : (o : Outcome Turn) → decision (benchView b l) s ≡ o → BenchFits (effectAs o b l s .bench) × LinkFits (effectAs o b l s .link)
@@ -144,15 +139,14 @@ module _ (b : Bench) (l : Link) (s : List ℕ) (f : BenchFits b) (g : LinkFits l
   as-decided (value counts) e =
       let v = b .variant in
       let r = decode s in
-      let c = counts-next (benchView b l) s e .0 in
       let no-fault = neither (variantCheck v .fault) (anyLaneFault v (map slotView (b .slots))) (counts-sound b l s e) .1 in
       let most = total-most (kind r) r (b .slots) in
       let few = mul-le-mul-right (length (b .slots)) (h 2) in (
         record {
           all-lanes = length-counted v (kind r) r (b .slots) ∙ f .all-lanes;
-          lanes-fit = counted-fit v (kind r) r (b .slots) (load-fits v s h (c .block-in)) no-fault (f .lanes-fit);
+          lanes-fit = counted-fit v (kind r) r (b .slots) (load-fits s h) no-fault (f .lanes-fit);
         },
-        record { last-fits = number-below s h; total-fits = omega (arith, f .all-lanes); whole-record = c .size },
+        record { last-fits = number-below s h; total-fits = omega (arith, f .all-lanes); whole-record = counts-next (benchView b l) s e .0 .size },
       )
   as-decided (value repeats) e = (f, g)
   as-decided (refused k) e = (f, g)
