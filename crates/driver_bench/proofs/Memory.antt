@@ -1,4 +1,4 @@
--- THEOREM: demand 3 in a driver's own memory.
+-- Demand 3 in a driver's own memory: each call is a list's call on the state that the memory says.
 -- Assumes nothing.
 use mathlib.Core.Path.{_≡_, refl, ap, ap₂, _∙_}
 use mathlib.Core.List.{List, [], _∷_, map, zipWith}
@@ -75,18 +75,21 @@ module _ (m : Memory) (k : Sound m) where
 
 -- ---- a list of calls
 
+-- what the list's calls return, and leave, from a state
+abbrev returns-from : List DriverCall → State → List Returned
+returns-from calls x = zipWith returnedAs (answersTo benchTransition x (map callOf calls)) (map lentFor calls)
+
+abbrev state-from : List DriverCall → State → State
+state-from calls x = stateAfter benchTransition x (map callOf calls)
+
 record SameCalls (m : Memory) (calls : List DriverCall) : Type 0 where
-  returns : returnsTo m calls ≡ zipWith returnedAs (answersTo benchTransition (stateIn m) (map callOf calls)) (map lentFor calls)
-  state : stateIn (memoryAfter m calls) ≡ stateAfter benchTransition (stateIn m) (map callOf calls)
+  returns : returnsTo m calls ≡ returns-from calls (stateIn m)
+  state : stateIn (memoryAfter m calls) ≡ state-from calls (stateIn m)
 
 one-more : (m : Memory) (c : DriverCall) (calls : List DriverCall) → SameCall m c → SameCalls (driverTransition m c .0) calls → SameCalls m (c ∷ calls)
 unfolding memoryAfter returnsTo stateAfter answersTo zipWith
 one-more m c calls a r =
-    let from : (x : State) → List Returned = λ x. zipWith returnedAs (answersTo benchTransition x (map callOf calls)) (map lentFor calls) in
-    record {
-      returns = ap₂ _∷_ (a .return) (r .returns ∙ ap from (a .state));
-      state = r .state ∙ ap (λ (x : State). stateAfter benchTransition x (map callOf calls)) (a .state);
-    }
+    record { returns = ap₂ _∷_ (a .return) (r .returns ∙ ap (returns-from calls) (a .state)); state = r .state ∙ ap (state-from calls) (a .state) }
 
 same-calls : (m : Memory) → Sound m → (calls : List DriverCall) → WellLent calls → SameCalls m calls
 unfolding memoryAfter returnsTo stateAfter answersTo zipWith
@@ -117,15 +120,13 @@ module _ (v : ℕ) (least : 1 ≤ v) (most : v ≤ 6) (before : Memory) (n : len
         link-fits = rw (opens .fresh-link) fresh-link-fits;
       }
 
+-- THEOREM: every list of a driver's calls is answered as the reference model answers it, and leaves each lane in memory as its machine
 pub every-list-in-memory : EveryListInMemory
 every-list-in-memory v least most before n m calls w =
     let r = same-calls (openedMemory v before) (opened-sound v least most before n m) calls w in
     let l = every-list v least most (map callOf calls) in
     let fresh = opened-fresh v least most before n m in
-    let answered : List Answer → List Returned = λ xs. zipWith returnedAs xs (map lentFor calls) in
     record {
-      same-returns = r .returns ∙ ap (λ (x : State). answered (answersTo benchTransition x (map callOf calls))) fresh ∙ ap answered (l .same-answers);
-      same-lanes = λ i lt.
-          ap (λ (x : State). slotView (getD (x .bench .slots) i emptySlot)) (r .state ∙ ap (λ (x : State). stateAfter benchTransition x (map callOf calls)) fresh)
-          ∙ l .same-lanes i lt;
+      same-returns = r .returns ∙ ap (returns-from calls) fresh ∙ ap (λ (xs : List Answer). zipWith returnedAs xs (map lentFor calls)) (l .same-answers);
+      same-lanes = λ i lt. ap (λ (x : State). slotView (getD (x .bench .slots) i emptySlot)) (r .state ∙ ap (state-from calls) fresh) ∙ l .same-lanes i lt;
     }

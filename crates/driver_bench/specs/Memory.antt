@@ -85,12 +85,11 @@ abbrev pub laneInMemory : Memory → ℕ → LaneView
 laneInMemory m i = slotView (getD (benchIn (m .bench) .slots) i emptySlot)
 
 -- of a list of calls, from memory that held anything before it was opened
-module _ (v : ℕ) (before : Memory) (calls : List DriverCall) where
-  pub record FollowsModelInMemory : Type 0 where
-    -- every status and every answer is the reference model's
-    pub same-returns : returnsTo (openedMemory v before) calls ≡ zipWith returnedAs (modelAnswers v (map callOf calls)) (map lentFor calls)
-    -- each lane is empty exactly when its machine is, and otherwise has its position and registers
-    pub same-lanes : (i : ℕ) → i < laneCount → laneInMemory (memoryAfter (openedMemory v before) calls) i ≡ machineView v (machineAfter v (map callOf calls) i)
+pub record FollowsModelInMemory (v : ℕ) (before : Memory) (calls : List DriverCall) : Type 0 where
+  -- every status and every answer is the reference model's
+  pub same-returns : returnsTo (openedMemory v before) calls ≡ zipWith returnedAs (modelAnswers v (map callOf calls)) (map lentFor calls)
+  -- each lane is empty exactly when its machine is, and otherwise has its position and registers
+  pub same-lanes : (i : ℕ) → i < laneCount → laneInMemory (memoryAfter (openedMemory v before) calls) i ≡ machineView v (machineAfter v (map callOf calls) i)
 
 -- for every variant and every list
 abbrev pub EveryListInMemory : Type 0
