@@ -20,7 +20,7 @@ pub whole-record : (s : List ℕ) → length s ≡ recordLength → recordIn s �
 unfolding recordIn
 whole-record s e = sym (full (λ (i : ℕ). getD s i 0) recordLength s e (λ i q. refl))
 
-take-bytes : (n : ℕ) (xs : List ℕ) → AreBytes xs → AreBytes (take n xs)
+pub take-bytes : (n : ℕ) (xs : List ℕ) → AreBytes xs → AreBytes (take n xs)
 take-bytes zero xs h j = omega arith
 take-bytes (suc n) [] h j = h j
 take-bytes (suc n) (x ∷ xs) h zero = h zero
@@ -33,10 +33,10 @@ part-of m a n s e h =
     rw (e, take-all m l (simp length-take (omega (arith, min-le-left n (length (drop a s))))))
 
 module _ (s : List ℕ) (h : AreBytes s) where
-  drop-bytes : (a : ℕ) → AreBytes (drop a s)
+  pub drop-bytes : (a : ℕ) → AreBytes (drop a s)
   drop-bytes a j = rw (getD-drop a s j 0) (h (a + j))
 
-  part-lt : (a n : ℕ) → part s a n < 2 ^ (8 * n)
+  pub part-lt : (a n : ℕ) → part s a n < 2 ^ (8 * n)
   part-lt a n = bytes-below n (drop a s) (drop-bytes a)
 
   -- bit 8 j + b of a part is bit b of its byte j
