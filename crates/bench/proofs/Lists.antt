@@ -13,7 +13,7 @@ use Rattle.bench.specs.Calls.{Call, arrival, reading, done, again, Answe
 use Rattle.bench.specs.Checks.{View, Turn, counts, repeats, decision}
 use Rattle.bench.specs.Model.{Model, freshModel, machineView, modelView, afterCounted, arrivalAs, modelTransition}
 use Rattle.bench.specs.Bench.{benchView, countedEffect, effectAs, arriveOf, readOf, State, freshState, afterEffect, benchTransition}
-use Rattle.bench.specs.Claim.{EveryList, TwoLists}
+use Rattle.bench.specs.Claim.{EveryList, TwoLists, Demand3}
 use Rattle.bench.proofs.Follow.{AllFollow, same-views, view-at, no-faults, fresh-follow, counted-slots, counted-total}
 use Rattle.bench.proofs.Turns.{counts-next, repeats-last, no-latest}
 use Rattle.bench.proofs.Records.{Made, fresh-made, counted-made, same-made}
@@ -114,3 +114,7 @@ two-lists v least most calls others i lt same =
     a .same-lanes i lt
     ∙ ap (machineView v) (a .made-by-records i lt ∙ same-made i _ _ same ∙ sym (b .made-by-records i lt))
     ∙ sym (b .same-lanes i lt)
+
+-- THEOREM: demand 3
+pub demand-3 : Demand3
+demand-3 = record { one-list = every-list; two-lists = two-lists }

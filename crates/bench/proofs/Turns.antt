@@ -40,26 +40,23 @@ same-record n last latest s e h = sym (same-equal latest s (not-false (sameBytes
 -- ---- a record that meets none of 1 to 10
 
 pub record Accepted (w : View) (s : List ℕ) : Type 0 where
-  pub size : length s ≡ recordLength
-  pub lane-in : decode s .lane < laneCount
+  pub sound : NoFault (sizeCheck recordLength s ∷ fieldChecks (w .variant) (decode s))
   pub count-in : wrongCount (kind (decode s)) (decode s .count) ≡ false
   pub block-in : decode s .block < 2 ^ widthOf (w .variant)
   pub turn : (decode s .number ≡ w .last + 1) ⊎ ((decode s .number ≡ w .last) × (0 < w .last))
   pub same : decode s .number ≡ w .last → s ≡ w .latest
 
 module _ (w : View) (s : List ℕ) where
+  -- wherever a check stands in the list
   pub accepted : NoFault (arrivalChecks w s) → Accepted w s
   unfolding arrivalChecks
   accepted z =
-      let after-4 = z .1 .1 .1 .1 in
-      let after-8 = after-4 .1 .1 .1 .1 in
       record {
-        size = eqb-true (length s) recordLength (not-false (eqb (length s) recordLength) (z .1 .0));
-        lane-in = leb-false laneCount (decode s .lane) (after-4 .0);
-        count-in = after-4 .1 .0;
-        block-in = leb-false (2 ^ widthOf (w .variant)) (decode s .block) (after-4 .1 .1 .0);
-        turn = in-turn (decode s .number) (w .last) (after-8 .0);
-        same = same-record (decode s .number) (w .last) (w .latest) s (after-8 .1 .0);
+        sound = search;
+        count-in = search;
+        block-in = leb-false (2 ^ widthOf (w .variant)) (decode s .block) search;
+        turn = in-turn (decode s .number) (w .last) search;
+        same = same-record (decode s .number) (w .last) (w .latest) s search;
       }
 
   -- it counts if numbered last + 1
@@ -91,6 +88,19 @@ module _ (w : View) (s : List ℕ) where
       go false p q (inl t) same = absurd (eqb-false (decode s .number) (w .last + 1) p t)
       go false p q (inr t) same = record { is-last = t .0; some = t .1; is-latest = same (t .0) }
 
+-- while none has counted, what stands for the latest is not looked at
+module _ (v : ℕ) (lanes : List LaneView) (xs ys s : List ℕ) where
+  abbrev firstDecision : List ℕ → Outcome Turn
+  firstDecision latest = decision (record { variant = v; lanes = lanes; last = 0; latest = latest }) s
+
+  pub no-latest : firstDecision xs ≡ firstDecision ys
+  unfolding decision arrivalChecks
+  no-latest = go (eqb (decode s .number) 0) refl
+    where
+      go : (b : Bool) → eqb (decode s .number) 0 ≡ b → firstDecision xs ≡ firstDecision ys
+      go true e = let n : decode s .number ≡ 0 = eqb-true (decode s .number) 0 e in rw n
+      go false e = rw e
+
 -- ---- the checks in parts: 1 and 2, 3 to 8, 9 and 10
 
 pub decision-parts : (w : View) (s : List ℕ) → decision w s
@@ -99,18 +109,6 @@ pub decision-parts : (w : View) (s : List ℕ) → decision w s
 unfolding decision arrivalChecks
 decision-parts w s =
     checked-append (benchCheck (w .variant) (w .lanes) ∷ sizeCheck recordLength s ∷ fieldChecks (w .variant) (decode s)) (turnChecks (w .last) (w .latest) s) (value (turnOf (w .last) s))
-
-same-turn : (xs ys s : List ℕ) (r : Outcome Turn) (b : Bool) → eqb (decode s .number) 0 ≡ b → checked (turnChecks 0 xs s) r ≡ checked (turnChecks 0 ys s) r
-same-turn xs ys s r true e = let n : decode s .number ≡ 0 = eqb-true (decode s .number) 0 e in rw n
-same-turn xs ys s r false e = rw e
-
--- while none has counted, what stands for the latest is not looked at
-pub no-latest : (v : ℕ) (lanes : List LaneView) (xs ys s : List ℕ)
-    → decision (record { variant = v; lanes = lanes; last = 0; latest = xs }) s ≡ decision (record { variant = v; lanes = lanes; last = 0; latest = ys }) s
-no-latest v lanes xs ys s =
-    decision-parts (record { variant = v; lanes = lanes; last = 0; latest = xs }) s
-    ∙ ap (λ (o : Outcome Turn). checked (benchCheck v lanes ∷ sizeCheck recordLength s ∷ []) (checked (fieldChecks v (decode s)) o)) (same-turn xs ys s (value (turnOf 0 s)) (eqb (decode s .number) 0) refl)
-    ∙ sym (decision-parts (record { variant = v; lanes = lanes; last = 0; latest = ys }) s)
 
 -- THEOREM: at last = 4,294,967,295 only a repeat is in turn
 pub only-repeats : OnlyRepeats

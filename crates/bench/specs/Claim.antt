@@ -1,4 +1,4 @@
--- Demand 3: one claim about every list of calls, and its consequence for two lists. A law of turns that no test reaches.
+-- Demand 3, one statement: the claim about every list of calls, and its consequence for two lists. A law of turns that no test reaches.
 -- Assumes nothing.
 use Prim.Native.Nat.{ℕ, _<_, _≤_}
 use mathlib.Core.Path.{_≡_}
@@ -62,6 +62,11 @@ abbrev pub TwoLists : Type 0
 TwoLists =
     (v : ℕ) → 1 ≤ v → v ≤ 6 → (calls others : List Call) (i : ℕ) → i < laneCount
     → AllSaySame i (countedRecords v calls) (countedRecords v others) → laneAfter v calls i ≡ laneAfter v others i
+
+-- demand 3
+pub record Demand3 : Type 0 where
+  pub one-list : EveryList
+  pub two-lists : TwoLists
 
 -- at last = 4,294,967,295 only a repeat is in turn, for any record of bytes
 abbrev pub OnlyRepeats : Type 0

@@ -5,4 +5,5 @@ pub mod Model
 pub mod Steps
 pub mod Bench
 pub mod Claim
+pub mod Laws
 pub mod inner

@@ -1,14 +1,15 @@
--- A record's bytes: those that say its fields, and the theorem that a record that is written down is read back as it was.
+-- A record's bytes: those that say its fields, and the theorem that a record that is written down is read back as it was. The records of each kind.
 -- Assumes nothing.
 use Prim.Native.Nat.{ℕ, _^_, _<_}
 use mathlib.Core.Path.{_≡_}
 use mathlib.Core.List.{List, [], _∷_, _++_}
 use lib.ListN.{length, getD}
 use Rattle.katan.specs.Bit.{tabulate, bytesOf}
-use Rattle.katan.specs.Key.{keyNumber}
+use Rattle.katan.specs.Key.{keyNumber, keyOf}
 use Rattle.katan.specs.Sizes.{keyBytes}
+use Rattle.katan.specs.declared.Key.{Key}
 use Rattle.bench_record.specs.declared.Record.{Record}
-use Rattle.bench_record.specs.Fields.{recordLength, decode}
+use Rattle.bench_record.specs.Fields.{load, kindByte, recordLength, decode}
 
 -- the bytes of the record that a list starts with
 unfoldable pub recordIn : List ℕ → List ℕ
@@ -31,3 +32,11 @@ pub record RecordFits (r : Record) : Type 0 where
 
 abbrev pub EveryRecord : Type 0
 EveryRecord = (r : Record) → (length (encode r) ≡ recordLength) × (RecordFits r → decode (encode r) ≡ r)
+
+-- a load, its unused field zero
+abbrev pub loadRecord : (number lane position : ℕ) → Key → (block : ℕ) → Record
+loadRecord n i p key x = record { kind = kindByte load; lane = i; count = p; gap = 0; number = n; mask = 0; key = key; block = x; rest = 0 }
+
+-- a move or a clear, its unused fields zero; a clear's count is 0
+abbrev pub moveRecord : (kind number mask count : ℕ) → Record
+moveRecord k n m c = record { kind = k; lane = 0; count = c; gap = 0; number = n; mask = m; key = keyOf 0; block = 0; rest = 0 }

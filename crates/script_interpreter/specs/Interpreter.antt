@@ -4,13 +4,12 @@ use Prim.Native.Nat.{ℕ}
 use mathlib.Core.List.{List, [], _∷_, _++_}
 use Rattle.katan.specs.Checks.{Outcome, value, refused, checked, variantCheck}
 use Rattle.bench_record.specs.Fields.{forward, back, clear, kindByte}
-use Rattle.bench_record.specs.Codec.{encode}
+use Rattle.bench_record.specs.Codec.{encode, loadRecord, moveRecord}
 use Rattle.bench.specs.Calls.{Call, arrival, reading, Answer}
 use Rattle.script_answers.specs.Printed.{openedLine, answerLine}
 use Rattle.script_command.specs.declared.Command.{Command}
 use Rattle.script_command.specs.declared.Command.the-variants.{Bench, Read, Load, Forward, Back, Clear}
 use Rattle.script_command.specs.Answer.{commandAnswer}
-use Rattle.script_interpreter.specs.Record.{loadRecord, moveRecord}
 
 module _ {S : Type 0} (variantIn : S → ℕ) (fresh : ℕ → S) (transition : S → Call → S × Answer) where
   -- a bench line opens a fresh bench and link; one that is refused keeps the earlier

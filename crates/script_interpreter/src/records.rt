@@ -1,7 +1,6 @@
 // The record that a record line names, unused fields zero.
 ghost use mathlib.Core.Path.{_≡_};
-ghost use Rattle.bench_record.specs.Codec.{encode};
-ghost use Rattle.script_interpreter.specs.Record.{loadRecord, moveRecord};
+ghost use Rattle.bench_record.specs.Codec.{encode, loadRecord, moveRecord};
 use bench_record::LENGTH;
 use bench_record::LOAD;
 use bench_record::Record;
