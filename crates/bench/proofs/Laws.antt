@@ -1,26 +1,39 @@
 -- The laws of every list.
 -- Assumes nothing.
 use mathlib.Core.Path.{_≡_, refl, sym, ap, ap₂, subst, _∙_}
-use mathlib.Core.Bool.{Bool, true, false}
+use mathlib.Core.Bool.{Bool, true, false, _||_}
 use mathlib.Core.List.{List, [], _∷_, _++_, append-assoc, append-cancel-left, List·Memᴰ, List·Memᴰ·head, List·Memᴰ·cases-cons, List·Memᴰ·not-nil, Memᴰ·append-left, Memᴰ·append-right}
 use mathlib.Core.Logic.{_⊎_, inl, inr}
-use Prim.Native.Nat.{ℕ, _+_, _^_, _<_, _≤_}
+use Prim.Native.Nat.{ℕ, _+_, _-_, _%_, _^_, _<_, _≤_, min}
+use native.Mathlib.Nat.{div-self}
 use native.Mathlib.Omega.{arith}
+use lib.Dec.{leb, ltb, eqb}
 use lib.ListN.{length, getD}
 use borrow.Author.Tests.{le-ltb, lt-leb, eq-eqb, ne-eqb}
-use Rattle.katan.specs.Bit.{pick}
+use lib.Pow.{pow-pos, pow-mono, pow-lt}
+use Rattle.katan.specs.Bit.{bit, pick}
+use Rattle.katan.specs.Counter.{rounds}
+use Rattle.katan.specs.Key.{keyLength, keyOf}
+use Rattle.katan.specs.Variant.{widthOf}
+use Rattle.katan.specs.Machine.{registersAt}
 use Rattle.katan.specs.Checks.{Outcome, value, refused, Check, checked, sizeCheck}
 use Rattle.katan.specs.Sizes.{laneCount}
 use Rattle.katan.proofs.Checked.{NoFault, no-fault-found, all-passed}
-use Rattle.bench_record.specs.Fields.{recordLength, sameBytes, decode}
-use Rattle.bench_record.specs.Checks.{fieldChecks}
+use Rattle.katan.proofs.KeyNumbers.{number-of-key}
+use Rattle.katan.proofs.Positions.{at-load}
+use Rattle.katan.proofs.Undo.{sound}
+use Rattle.bench_record.specs.declared.Record.{Record}
+use Rattle.bench_record.specs.Fields.{Kind, load, forward, back, kindByte, kindOf, namesAs, recordLength, decode}
+use Rattle.bench_record.specs.Codec.{encode, loadRecord, moveRecord}
+use Rattle.bench_record.specs.Checks.{unknown, unused, wrongCount, noneNamed, fieldChecks}
+use Rattle.bench_record.proofs.Codec.{every-record}
 use Rattle.bench_record.proofs.Same.{same-self}
-use Rattle.bench.specs.Machine.{empty, totalOf}
+use Rattle.bench.specs.Machine.{Machine, empty, loaded, stepAs, machineStep, totalOf}
 use Rattle.bench.specs.Calls.{Call, arrival, reading, done, again, Answer, stateAfter, answersTo}
 use Rattle.bench.specs.Checks.{View, benchCheck, turnCheck, repeatCheck, arrivalChecks, Turn, counts, repeats, turnOf, decision}
-use Rattle.bench.specs.Model.{Model, freshModel, machineView, modelView, afterCounted, arrivalAs, modelTransition}
+use Rattle.bench.specs.Model.{Model, freshModel, machineView, modelView, afterCounted, arrivalAs, modelTransition, madeBy}
 use Rattle.bench.specs.Claim.{benchAnswers, modelAnswers, modelAfter, countedRecords, laneAfter}
-use Rattle.bench.specs.Laws.{SoundRecord, FirstFault, andArrival, CountsNext, AnsweredAgain}
+use Rattle.bench.specs.Laws.{SoundRecord, FirstFault, andArrival, CountsNext, AnsweredAgain, shows, loads, moves, Reached, LawsOf, Laws}
 use Rattle.bench.proofs.Calls.{state-more, answers-more}
 use Rattle.bench.proofs.Turns.{counts-next}
 use Rattle.bench.proofs.Lists.{every-list}
@@ -174,3 +187,115 @@ module _ (v : ℕ) (least : 1 ≤ v) (most : v ≤ 6) where
         go (value counts) d f = let z : _≡_ {A = ℕ} 0 1 = cc in absurd (omega arith)
         go (value repeats) d f = let z : _≡_ {A = ℕ} 0 1 = cc in absurd (omega arith)
         go (refused n) d f = first-found (turnOf (modelView v (modelAfter v calls) .last) s) k (arrivalChecks (modelView v (modelAfter v calls)) s) (cc)
+
+  -- ---- a lane that is loaded, and moves
+
+  -- the machine of a lane, from the records that counted
+  shown-by : (calls : List Call) (i : ℕ) (ss : List (List ℕ)) → i < laneCount → countedRecords v calls ≡ ss → laneAfter v calls i ≡ machineView v (madeBy i ss)
+  shown-by calls i ss lt e =
+      let now = every-list v least most calls in
+      now .same-lanes i lt ∙ ap (machineView v) (now .made-by-records i lt ∙ ap (madeBy i) e)
+
+  -- a record that is written down is sound if its fields are
+  written-sound : (r : Record) → decode (encode r) ≡ r → NoFault (fieldChecks v r) → SoundRecord v (encode r)
+  written-sound r e free =
+      no-fault-found (sizeCheck recordLength (encode r) ∷ fieldChecks v (decode (encode r))) (value tt)
+      (rw (eq-eqb (length (encode r)) recordLength (every-record r .0)), subst (λ (t : Record). NoFault (fieldChecks v t)) (sym e) free)
+
+  module _ (i q key x : ℕ) (lane : i < laneCount) (from : q ≤ rounds) (fits : key < 2 ^ keyLength) (small : x < 2 ^ widthOf v) where
+    abbrev load-it : Record
+    load-it = loadRecord 1 i q (keyOf key) x
+
+    load-back : decode (encode load-it) ≡ load-it
+    load-back =
+        every-record load-it .1
+        (record {
+          number = omega arith;
+          mask = omega arith;
+          low = omega arith;
+          high = omega arith;
+          block = omega (arith, pow-mono {i = widthOf v} {j = 64} (sound v .n-fits));
+          rest = omega arith;
+        })
+
+    load-free : NoFault (fieldChecks v load-it)
+    unfolding kindOf unknown unused wrongCount noneNamed
+    load-free =
+        let in-lanes = lt-leb laneCount i lane in
+        let in-rounds = le-ltb rounds q from in
+        let in-width = lt-leb (2 ^ widthOf v) x small in
+        search
+
+    load-counts : countedRecords v (loads v i q key x ∷ []) ≡ encode load-it ∷ []
+    unfolding stateAfter freshModel
+    load-counts = counting [] (encode load-it) (written-sound load-it load-back load-free) (ap (λ (t : Record). t .number) load-back) .one-more
+
+    load-made : (m : Machine) → machineStep (decode (encode load-it)) i m ≡ loaded key x q q
+    unfolding kindOf namesAs stepAs
+    load-made m = ap (λ (t : Record). machineStep t i m) load-back ∙ rw (eq-eqb i i refl, number-of-key key)
+
+    by-load : laneAfter v (loads v i q key x ∷ []) i ≡ shows q x
+    unfolding madeBy machineView
+    by-load = shown-by (loads v i q key x ∷ []) i (encode load-it ∷ []) lane load-counts ∙ ap (machineView v) (load-made empty) ∙ ap (shows q) (at-load v key q x)
+
+    module _ (k : Kind) (c : ℕ) where
+      abbrev move-it : Record
+      move-it = moveRecord (kindByte k) 2 (2 ^ i) c
+
+      move-back : decode (encode move-it) ≡ move-it
+      move-back =
+          every-record move-it .1
+          (record {
+            number = omega arith;
+            mask = pow-lt {i = i} {j = 64} lane;
+            low = omega arith;
+            high = omega arith;
+            block = omega arith;
+            rest = omega arith;
+          })
+
+      moved : (p : ℕ) → NoFault (fieldChecks v move-it) → machineStep move-it i (loaded key x q q) ≡ loaded key x q p
+          → laneAfter v (loads v i q key x ∷ moves v i q key x k c ∷ []) i ≡ shows p (registersAt v key q x p)
+      unfolding madeBy machineView
+      moved p free step =
+          let n : decode (encode move-it) .number ≡ length (countedRecords v (loads v i q key x ∷ [])) + 1 = rw load-counts (ap (λ (t : Record). t .number) move-back) in
+          let both = counting (loads v i q key x ∷ []) (encode move-it) (written-sound move-it move-back free) n .one-more in
+          shown-by (loads v i q key x ∷ moves v i q key x k c ∷ []) i (encode move-it ∷ encode load-it ∷ []) lane (both ∙ ap (λ (l : List (List ℕ)). encode move-it ∷ l) load-counts)
+          ∙ ap (machineView v) (ap₂ (λ (t : Record) (m : Machine). machineStep t i m) move-back (load-made empty) ∙ step)
+
+    -- what the checks of a move ask, and that its mask names the lane
+    module _ (c : ℕ) (some : 1 ≤ c) (few : c ≤ rounds) where
+      in-range : (eqb c 0 || ltb rounds c) ≡ false
+      in-range = rw (ne-eqb c 0 (λ e. omega arith), le-ltb rounds c few)
+
+      no-block : leb (2 ^ widthOf v) 0 ≡ false
+      no-block = lt-leb (2 ^ widthOf v) 0 (pow-pos (widthOf v))
+
+      names-some : eqb (2 ^ i) 0 ≡ false
+      names-some = ne-eqb (2 ^ i) 0 (λ e. omega (arith, pow-pos i))
+
+      names-it : eqb (bit (2 ^ i) i) 1 ≡ true
+      names-it = eq-eqb (bit (2 ^ i) i) 1 (ap (λ (y : ℕ). y % 2) (div-self (pow-pos i)))
+
+      by-forward : laneAfter v (loads v i q key x ∷ moves v i q key x forward c ∷ []) i ≡ shows (min rounds (q + c)) (registersAt v key q x (min rounds (q + c)))
+      unfolding kindOf unknown unused wrongCount noneNamed namesAs stepAs
+      by-forward = moved forward c (min rounds (q + c)) (search (in-range, no-block, names-some)) (rw names-it)
+
+      by-back : laneAfter v (loads v i q key x ∷ moves v i q key x back c ∷ []) i ≡ shows (q - c) (registersAt v key q x (q - c))
+      unfolding kindOf unknown unused wrongCount noneNamed namesAs stepAs
+      by-back = moved back c (q - c) (search (in-range, no-block, names-some)) (rw names-it)
+
+-- THEOREM: the laws of every list
+pub laws : Laws
+laws v least most =
+    record {
+      counting = counting v least most;
+      repeating = repeating v least most;
+      refusing = refusing v least most;
+      reaching = λ i q key x lane from fits small.
+          record {
+            by-load = by-load v least most i q key x lane from fits small;
+            by-forward = by-forward v least most i q key x lane from fits small;
+            by-back = by-back v least most i q key x lane from fits small;
+          };
+    }
