@@ -23,7 +23,7 @@ use Rattle.katan.proofs.KeyNumbers.{number-of-key}
 use Rattle.katan.proofs.Positions.{at-load}
 use Rattle.katan.proofs.Undo.{sound}
 use Rattle.bench_record.specs.declared.Record.{Record}
-use Rattle.bench_record.specs.Fields.{Kind, load, forward, back, kindByte, kindOf, namesAs, recordLength, decode}
+use Rattle.bench_record.specs.Fields.{Kind, forward, back, kindByte, kindOf, namesAs, recordLength, decode}
 use Rattle.bench_record.specs.Codec.{encode, loadRecord, moveRecord}
 use Rattle.bench_record.specs.Checks.{unknown, unused, wrongCount, noneNamed, fieldChecks}
 use Rattle.bench_record.proofs.Codec.{every-record}
@@ -33,7 +33,7 @@ use Rattle.bench.specs.Calls.{Call, arrival, reading, done, again, Answe
 use Rattle.bench.specs.Checks.{View, benchCheck, turnCheck, repeatCheck, arrivalChecks, Turn, counts, repeats, turnOf, decision}
 use Rattle.bench.specs.Model.{Model, freshModel, machineView, modelView, afterCounted, arrivalAs, modelTransition, madeBy}
 use Rattle.bench.specs.Claim.{benchAnswers, modelAnswers, modelAfter, countedRecords, laneAfter}
-use Rattle.bench.specs.Laws.{SoundRecord, FirstFault, andArrival, CountsNext, AnsweredAgain, shows, loads, moves, Reached, LawsOf, Laws}
+use Rattle.bench.specs.Laws.{SoundRecord, FirstFault, andArrival, CountsNext, AnsweredAgain, shows, loadCall, moveCall, Laws}
 use Rattle.bench.proofs.Calls.{state-more, answers-more}
 use Rattle.bench.proofs.Turns.{counts-next}
 use Rattle.bench.proofs.Lists.{every-list}
@@ -136,61 +136,111 @@ module _ (v : ℕ) where
   unfolding freshModel
   latest-known calls = known-calls calls freshModel [] (λ s earlier e. let z : _≡_ {A = ℕ} 0 1 = cc in absurd (omega arith))
 
-module _ (v : ℕ) (least : 1 ≤ v) (most : v ≤ 6) where
-  -- ---- one more arrival
+  -- ---- the reference model at one more arrival
 
   module _ (calls : List Call) (s : List ℕ) where
-    module _ (o : Outcome Turn) (e : decision (modelView v (modelAfter v calls)) s ≡ o) where
+    abbrev turnNow : Outcome Turn
+    turnNow = decision (modelView v (modelAfter v calls)) s
+
+    module _ (o : Outcome Turn) (e : turnNow ≡ o) where
       arrived : modelAfter v (andArrival calls s) ≡ arrivalAs o (modelAfter v calls) s .0
       unfolding stateAfter modelTransition
       arrived = state-more (modelTransition v) freshModel calls (arrival s ∷ []) ∙ ap (λ (t : Outcome Turn). arrivalAs t (modelAfter v calls) s .0) e
 
-      answered : benchAnswers v (andArrival calls s) ≡ benchAnswers v calls ++ arrivalAs o (modelAfter v calls) s .1 ∷ []
+      answered : modelAnswers v (andArrival calls s) ≡ modelAnswers v calls ++ arrivalAs o (modelAfter v calls) s .1 ∷ []
       unfolding answersTo modelTransition
       answered =
-          every-list v least most (andArrival calls s) .same-answers
-          ∙ answers-more (modelTransition v) freshModel calls (arrival s ∷ [])
-          ∙ ap₂ (λ (before : List Answer) (t : Outcome Turn). before ++ arrivalAs t (modelAfter v calls) s .1 ∷ []) (sym (every-list v least most calls .same-answers)) e
+          answers-more (modelTransition v) freshModel calls (arrival s ∷ [])
+          ∙ ap (λ (t : Outcome Turn). modelAnswers v calls ++ arrivalAs t (modelAfter v calls) s .1 ∷ []) e
 
+    counts-leaves : turnNow ≡ value counts → countedRecords v (andArrival calls s) ≡ s ∷ countedRecords v calls
+    unfolding arrivalAs afterCounted
+    counts-leaves e = ap (λ (m : Model). m .counted) (arrived (value counts) e)
+
+    counts-answers : turnNow ≡ value counts
+        → modelAnswers v (andArrival calls s) ≡ modelAnswers v calls ++ value (done (decode s .number) (totalOf (decode s) 0 (modelAfter v calls .machines))) ∷ []
+    unfolding arrivalAs
+    counts-answers e = answered (value counts) e
+
+    repeats-leaves : turnNow ≡ value repeats → modelAfter v (andArrival calls s) ≡ modelAfter v calls
+    unfolding arrivalAs
+    repeats-leaves e = arrived (value repeats) e
+
+    repeats-answers : turnNow ≡ value repeats
+        → modelAnswers v (andArrival calls s) ≡ modelAnswers v calls ++ value (again (decode s .number) (modelAfter v calls .total)) ∷ []
+    unfolding arrivalAs
+    repeats-answers e = answered (value repeats) e
+
+    refused-turn : (k : ℕ) (o : Outcome Turn) → turnNow ≡ o → arrivalAs o (modelAfter v calls) s .1 ∷ [] ≡ refused k ∷ []
+        → FirstFault (arrivalChecks (modelView v (modelAfter v calls)) s) k
+    unfolding arrivalAs decision
+    refused-turn k (value counts) d f = let z : _≡_ {A = ℕ} 0 1 = cc in absurd (omega arith)
+    refused-turn k (value repeats) d f = let z : _≡_ {A = ℕ} 0 1 = cc in absurd (omega arith)
+    refused-turn k (refused n) d f = first-found (turnOf (modelView v (modelAfter v calls) .last) s) k (arrivalChecks (modelView v (modelAfter v calls)) s) (cc)
+
+    refused-answers : (k : ℕ) → modelAnswers v (andArrival calls s) ≡ modelAnswers v calls ++ refused k ∷ [] → FirstFault (arrivalChecks (modelView v (modelAfter v calls)) s) k
+    refused-answers k e =
+        refused-turn k turnNow refl
+        (append-cancel-left (modelAnswers v calls) (arrivalAs turnNow (modelAfter v calls) s .1 ∷ []) (refused k ∷ []) (sym (answered turnNow refl) ∙ e))
+
+-- ---- the machine of a lane that is loaded, and moves
+
+module _ (i q key x : ℕ) where
+  load-step : (m : Machine) → machineStep (loadRecord 1 i q (keyOf key) x) i m ≡ loaded key x q q
+  unfolding kindOf namesAs stepAs
+  load-step m = ap₂ (λ (b : Bool) (k : ℕ). pick b (loaded k x q q) m) (eq-eqb i i refl) (number-of-key key)
+
+  names-it : eqb (bit (2 ^ i) i) 1 ≡ true
+  names-it = eq-eqb (bit (2 ^ i) i) 1 (ap (λ (y : ℕ). y % 2) (div-self (pow-pos i)))
+
+  module _ (c : ℕ) where
+    abbrev movedTo : Bool → (position : ℕ) → Machine
+    movedTo b p = pick b (loaded key x q p) (loaded key x q q)
+
+    forward-step : machineStep (moveRecord (kindByte forward) 2 (2 ^ i) c) i (loaded key x q q) ≡ loaded key x q (min rounds (q + c))
+    unfolding kindOf namesAs stepAs
+    forward-step = ap (λ (b : Bool). movedTo b (min rounds (q + c))) names-it
+
+    back-step : machineStep (moveRecord (kindByte back) 2 (2 ^ i) c) i (loaded key x q q) ≡ loaded key x q (q - c)
+    unfolding kindOf namesAs stepAs
+    back-step = ap (λ (b : Bool). movedTo b (q - c)) names-it
+
+module _ (v : ℕ) (least : 1 ≤ v) (most : v ≤ 6) where
+  -- ---- and the bench
+
+  same : (calls : List Call) → benchAnswers v calls ≡ modelAnswers v calls
+  same calls = every-list v least most calls .same-answers
+
+  module _ (calls : List Call) (s : List ℕ) where
     counting : SoundRecord v s → decode s .number ≡ length (countedRecords v calls) + 1 → CountsNext v calls s
-    unfolding modelView arrivalAs afterCounted
+    unfolding modelView
     counting sound n =
-        let d = next-counts (modelView v (modelAfter v calls)) s (every-list v least most calls .no-check-1) sound n in
-        record { one-more = ap (λ (m : Model). m .counted) (arrived (value counts) d); answered = answered (value counts) d }
+        let e = next-counts (modelView v (modelAfter v calls)) s (every-list v least most calls .no-check-1) sound n in
+        record { one-more = counts-leaves v calls s e; answered = rw (same (andArrival calls s), same calls) (counts-answers v calls s e) }
 
     repeating : (earlier : List (List ℕ)) → countedRecords v calls ≡ s ∷ earlier → AnsweredAgain v calls s
-    unfolding modelView arrivalAs
+    unfolding modelView
     repeating earlier q =
         let now = every-list v least most calls in
         let next = every-list v least most (andArrival calls s) in
         let l = latest-known v calls s earlier q in
         let some = ap length q in
-        let d = latest-repeats (modelView v (modelAfter v calls)) s (now .no-check-1) (l .sound) (l .is-last) (omega arith) (rw q) in
-        let same = arrived (value repeats) d in
+        let e = latest-repeats (modelView v (modelAfter v calls)) s (now .no-check-1) (l .sound) (l .is-last) (omega arith) (rw q) in
+        let kept = repeats-leaves v calls s e in
         record {
           total = modelAfter v calls .total;
-          was-done = rw (now .same-answers) (l .was-done);
-          answered = answered (value repeats) d;
-          none-counts = ap (λ (m : Model). m .counted) same;
-          none-moves = λ i lt. next .same-lanes i lt ∙ ap (λ (m : Model). machineView v (getD (m .machines) i empty)) same ∙ sym (now .same-lanes i lt);
+          was-done = rw (same calls) (l .was-done);
+          answered = rw (same (andArrival calls s), same calls) (repeats-answers v calls s e);
+          none-counts = ap (λ (m : Model). m .counted) kept;
+          none-moves = λ i lt. next .same-lanes i lt ∙ ap (λ (m : Model). machineView v (getD (m .machines) i empty)) kept ∙ sym (now .same-lanes i lt);
         }
 
     refusing : (k : ℕ) → benchAnswers v (andArrival calls s) ≡ benchAnswers v calls ++ refused k ∷ [] → FirstFault (arrivalChecks (modelView v (modelAfter v calls)) s) k
-    unfolding arrivalAs decision
-    refusing k e =
-        let d = decision (modelView v (modelAfter v calls)) s in
-        let last = append-cancel-left (benchAnswers v calls) (arrivalAs d (modelAfter v calls) s .1 ∷ []) (refused k ∷ []) (sym (answered d refl) ∙ e) in
-        go d refl last
-      where
-        go : (o : Outcome Turn) → decision (modelView v (modelAfter v calls)) s ≡ o → arrivalAs o (modelAfter v calls) s .1 ∷ [] ≡ refused k ∷ []
-            → FirstFault (arrivalChecks (modelView v (modelAfter v calls)) s) k
-        go (value counts) d f = let z : _≡_ {A = ℕ} 0 1 = cc in absurd (omega arith)
-        go (value repeats) d f = let z : _≡_ {A = ℕ} 0 1 = cc in absurd (omega arith)
-        go (refused n) d f = first-found (turnOf (modelView v (modelAfter v calls) .last) s) k (arrivalChecks (modelView v (modelAfter v calls)) s) (cc)
+    refusing k e = refused-answers v calls s k (rw (same (andArrival calls s), same calls) at e)
 
   -- ---- a lane that is loaded, and moves
 
-  -- the machine of a lane, from the records that counted
+  -- what a lane shows, from the records that counted
   shown-by : (calls : List Call) (i : ℕ) (ss : List (List ℕ)) → i < laneCount → countedRecords v calls ≡ ss → laneAfter v calls i ≡ machineView v (madeBy i ss)
   shown-by calls i ss lt e =
       let now = every-list v least most calls in
@@ -203,12 +253,15 @@ module _ (v : ℕ) (least : 1 ≤ v) (most : v ≤ 6) where
       (rw (eq-eqb (length (encode r)) recordLength (every-record r .0)), subst (λ (t : Record). NoFault (fieldChecks v t)) (sym e) free)
 
   module _ (i q key x : ℕ) (lane : i < laneCount) (from : q ≤ rounds) (fits : key < 2 ^ keyLength) (small : x < 2 ^ widthOf v) where
-    abbrev load-it : Record
-    load-it = loadRecord 1 i q (keyOf key) x
+    abbrev theLoad : Record
+    theLoad = loadRecord 1 i q (keyOf key) x
 
-    load-back : decode (encode load-it) ≡ load-it
+    abbrev loaded-list : List Call
+    loaded-list = loadCall i q key x ∷ []
+
+    load-back : decode (encode theLoad) ≡ theLoad
     load-back =
-        every-record load-it .1
+        every-record theLoad .1
         (record {
           number = omega arith;
           mask = omega arith;
@@ -218,33 +271,29 @@ module _ (v : ℕ) (least : 1 ≤ v) (most : v ≤ 6) where
           rest = omega arith;
         })
 
-    load-free : NoFault (fieldChecks v load-it)
+    load-free : NoFault (fieldChecks v theLoad)
     unfolding kindOf unknown unused wrongCount noneNamed
-    load-free =
-        let in-lanes = lt-leb laneCount i lane in
-        let in-rounds = le-ltb rounds q from in
-        let in-width = lt-leb (2 ^ widthOf v) x small in
-        search
+    load-free = search (lt-leb laneCount i lane, le-ltb rounds q from, lt-leb (2 ^ widthOf v) x small)
 
-    load-counts : countedRecords v (loads v i q key x ∷ []) ≡ encode load-it ∷ []
+    load-counts : countedRecords v loaded-list ≡ encode theLoad ∷ []
     unfolding stateAfter freshModel
-    load-counts = counting [] (encode load-it) (written-sound load-it load-back load-free) (ap (λ (t : Record). t .number) load-back) .one-more
+    load-counts = counting [] (encode theLoad) (written-sound theLoad load-back load-free) (ap (λ (t : Record). t .number) load-back) .one-more
 
-    load-made : (m : Machine) → machineStep (decode (encode load-it)) i m ≡ loaded key x q q
-    unfolding kindOf namesAs stepAs
-    load-made m = ap (λ (t : Record). machineStep t i m) load-back ∙ rw (eq-eqb i i refl, number-of-key key)
+    load-made : madeBy i (encode theLoad ∷ []) ≡ loaded key x q q
+    unfolding madeBy
+    load-made = ap (λ (t : Record). machineStep t i empty) load-back ∙ load-step i q key x empty
 
-    by-load : laneAfter v (loads v i q key x ∷ []) i ≡ shows q x
-    unfolding madeBy machineView
-    by-load = shown-by (loads v i q key x ∷ []) i (encode load-it ∷ []) lane load-counts ∙ ap (machineView v) (load-made empty) ∙ ap (shows q) (at-load v key q x)
+    by-load : laneAfter v loaded-list i ≡ shows q x
+    unfolding machineView
+    by-load = shown-by loaded-list i (encode theLoad ∷ []) lane load-counts ∙ ap (machineView v) load-made ∙ ap (shows q) (at-load v key q x)
 
     module _ (k : Kind) (c : ℕ) where
-      abbrev move-it : Record
-      move-it = moveRecord (kindByte k) 2 (2 ^ i) c
+      abbrev theMove : Record
+      theMove = moveRecord (kindByte k) 2 (2 ^ i) c
 
-      move-back : decode (encode move-it) ≡ move-it
+      move-back : decode (encode theMove) ≡ theMove
       move-back =
-          every-record move-it .1
+          every-record theMove .1
           (record {
             number = omega arith;
             mask = pow-lt {i = i} {j = 64} lane;
@@ -254,19 +303,18 @@ module _ (v : ℕ) (least : 1 ≤ v) (most : v ≤ 6) where
             rest = omega arith;
           })
 
-      moved : (p : ℕ) → NoFault (fieldChecks v move-it) → machineStep move-it i (loaded key x q q) ≡ loaded key x q p
-          → laneAfter v (loads v i q key x ∷ moves v i q key x k c ∷ []) i ≡ shows p (registersAt v key q x p)
+      by-move : (p : ℕ) → NoFault (fieldChecks v theMove) → machineStep theMove i (loaded key x q q) ≡ loaded key x q p
+          → laneAfter v (loadCall i q key x ∷ moveCall k i c ∷ []) i ≡ shows p (registersAt v key q x p)
       unfolding madeBy machineView
-      moved p free step =
-          let n : decode (encode move-it) .number ≡ length (countedRecords v (loads v i q key x ∷ [])) + 1 = rw load-counts (ap (λ (t : Record). t .number) move-back) in
-          let both = counting (loads v i q key x ∷ []) (encode move-it) (written-sound move-it move-back free) n .one-more in
-          shown-by (loads v i q key x ∷ moves v i q key x k c ∷ []) i (encode move-it ∷ encode load-it ∷ []) lane (both ∙ ap (λ (l : List (List ℕ)). encode move-it ∷ l) load-counts)
-          ∙ ap (machineView v) (ap₂ (λ (t : Record) (m : Machine). machineStep t i m) move-back (load-made empty) ∙ step)
+      by-move p free step =
+          let n : decode (encode theMove) .number ≡ length (countedRecords v loaded-list) + 1 = rw load-counts (ap (λ (t : Record). t .number) move-back) in
+          let both = counting loaded-list (encode theMove) (written-sound theMove move-back free) n .one-more ∙ ap (λ (l : List (List ℕ)). encode theMove ∷ l) load-counts in
+          shown-by (loadCall i q key x ∷ moveCall k i c ∷ []) i (encode theMove ∷ encode theLoad ∷ []) lane both
+          ∙ ap (machineView v) (ap₂ (λ (t : Record) (m : Machine). machineStep t i m) move-back load-made ∙ step)
 
-    -- what the checks of a move ask, and that its mask names the lane
     module _ (c : ℕ) (some : 1 ≤ c) (few : c ≤ rounds) where
-      in-range : (eqb c 0 || ltb rounds c) ≡ false
-      in-range = rw (ne-eqb c 0 (λ e. omega arith), le-ltb rounds c few)
+      count-in : (eqb c 0 || ltb rounds c) ≡ false
+      count-in = rw (ne-eqb c 0 (λ e. omega arith), le-ltb rounds c few)
 
       no-block : leb (2 ^ widthOf v) 0 ≡ false
       no-block = lt-leb (2 ^ widthOf v) 0 (pow-pos (widthOf v))
@@ -274,16 +322,13 @@ module _ (v : ℕ) (least : 1 ≤ v) (most : v ≤ 6) where
       names-some : eqb (2 ^ i) 0 ≡ false
       names-some = ne-eqb (2 ^ i) 0 (λ e. omega (arith, pow-pos i))
 
-      names-it : eqb (bit (2 ^ i) i) 1 ≡ true
-      names-it = eq-eqb (bit (2 ^ i) i) 1 (ap (λ (y : ℕ). y % 2) (div-self (pow-pos i)))
+      by-forward : laneAfter v (loadCall i q key x ∷ moveCall forward i c ∷ []) i ≡ shows (min rounds (q + c)) (registersAt v key q x (min rounds (q + c)))
+      unfolding kindOf unknown unused wrongCount noneNamed
+      by-forward = by-move forward c (min rounds (q + c)) (search (count-in, no-block, names-some)) (forward-step i q key x c)
 
-      by-forward : laneAfter v (loads v i q key x ∷ moves v i q key x forward c ∷ []) i ≡ shows (min rounds (q + c)) (registersAt v key q x (min rounds (q + c)))
-      unfolding kindOf unknown unused wrongCount noneNamed namesAs stepAs
-      by-forward = moved forward c (min rounds (q + c)) (search (in-range, no-block, names-some)) (rw names-it)
-
-      by-back : laneAfter v (loads v i q key x ∷ moves v i q key x back c ∷ []) i ≡ shows (q - c) (registersAt v key q x (q - c))
-      unfolding kindOf unknown unused wrongCount noneNamed namesAs stepAs
-      by-back = moved back c (q - c) (search (in-range, no-block, names-some)) (rw names-it)
+      by-back : laneAfter v (loadCall i q key x ∷ moveCall back i c ∷ []) i ≡ shows (q - c) (registersAt v key q x (q - c))
+      unfolding kindOf unknown unused wrongCount noneNamed
+      by-back = by-move back c (q - c) (search (count-in, no-block, names-some)) (back-step i q key x c)
 
 -- THEOREM: the laws of every list
 pub laws : Laws

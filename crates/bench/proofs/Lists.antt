@@ -10,7 +10,7 @@ use Rattle.katan.proofs.Variants.{variant-sound}
 use Rattle.katan.specs.Sizes.{laneCount}
 use Rattle.bench_record.specs.Fields.{decode, kind}
 use Rattle.bench.specs.Calls.{Call, arrival, reading, done, again, Answer, stateAfter, answersTo}
-use Rattle.bench.specs.Checks.{View, Turn, counts, repeats, decision}
+use Rattle.bench.specs.Checks.{LaneView, View, Turn, counts, repeats, decision, readOutcome}
 use Rattle.bench.specs.Model.{Model, freshModel, machineView, modelView, afterCounted, arrivalAs, modelTransition}
 use Rattle.bench.specs.Bench.{benchView, countedEffect, effectAs, arriveOf, readOf, State, freshState, afterEffect, benchTransition}
 use Rattle.bench.specs.Claim.{EveryList, TwoLists, Demand3}
@@ -76,7 +76,7 @@ module _ (v : ℕ) where
     same-call : (c : Call) → Agree (benchTransition x c) (modelTransition v m c)
     unfolding benchTransition modelTransition arriveOf readOf modelView
     same-call (arrival s) = rw (same-decision s) (same-effect s (decision (modelView v m) s) refl)
-    same-call (reading i) = record { answer = rw (k .variant, same-views v (x .bench .slots) (m .machines) (k .lanes)); next = k }
+    same-call (reading i) = record { answer = ap₂ (λ (u : ℕ) (lanes : List LaneView). readOutcome u lanes i) (k .variant) (same-views v (x .bench .slots) (m .machines) (k .lanes)); next = k }
 
   -- ---- every call
 

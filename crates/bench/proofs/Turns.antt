@@ -1,18 +1,16 @@
 -- Turns: what is known of a record that counts or is a repeat.
 -- Assumes nothing.
-use mathlib.Core.Path.{_≡_, refl, sym, ap, _∙_}
+use mathlib.Core.Path.{_≡_, refl, sym}
 use mathlib.Core.Bool.{Bool, true, false, not, _&&_, _||_}
 use mathlib.Core.Logic.{_⊎_, inl, inr}
 use mathlib.Core.List.{List, [], _∷_}
 use Prim.Native.Nat.{ℕ, _+_, _^_, _<_}
 use native.Mathlib.Omega.{arith}
 use lib.Dec.{eqb}
-use lib.ListN.{length}
 use borrow.Author.Tests.{leb-false, eqb-true, eqb-false, eq-eqb, not-false}
 use Rattle.katan.specs.Bit.{pick}
 use Rattle.katan.specs.Variant.{widthOf}
 use Rattle.katan.specs.Checks.{Outcome, value, checked, sizeCheck}
-use Rattle.katan.specs.Sizes.{laneCount}
 use Rattle.bench_record.specs.Fields.{sameBytes, recordLength, decode, kind}
 use Rattle.bench_record.specs.Checks.{nonzero, wrongCount, fieldChecks}
 use Rattle.bench_record.proofs.Same.{same-equal}

@@ -54,24 +54,25 @@ module _ (v : ℕ) (calls : List Call) (s : List ℕ) where
     pub none-counts : countedRecords v (andArrival calls s) ≡ countedRecords v calls
     pub none-moves : (i : ℕ) → i < laneCount → laneAfter v (andArrival calls s) i ≡ laneAfter v calls i
 
--- a loaded lane
+-- a loaded lane's position and registers
 abbrev pub shows : (position registers : ℕ) → LaneView
 shows p x = loadedLane (record { position = record { 0 = p }; registers = x })
 
-module _ (v i q key x : ℕ) where
-  -- record 1 loads lane i at position q, record 2 moves that lane alone
-  abbrev pub loads : Call
-  loads = arrival (encode (loadRecord 1 i q (keyOf key) x))
+-- record 1 loads a lane
+abbrev pub loadCall : (lane position key block : ℕ) → Call
+loadCall i q key x = arrival (encode (loadRecord 1 i q (keyOf key) x))
 
-  abbrev pub moves : Kind → (count : ℕ) → Call
-  moves k c = arrival (encode (moveRecord (kindByte k) 2 (2 ^ i) c))
+-- record 2 moves that lane alone
+abbrev pub moveCall : Kind → (lane count : ℕ) → Call
+moveCall k i c = arrival (encode (moveRecord (kindByte k) 2 (2 ^ i) c))
 
-  -- the lane after the load, and after a move
-  pub record Reached : Type 0 where
-    pub by-load : laneAfter v (loads ∷ []) i ≡ shows q x
-    pub by-forward : (c : ℕ) → 1 ≤ c → c ≤ rounds
-        → laneAfter v (loads ∷ moves forward c ∷ []) i ≡ shows (min rounds (q + c)) (registersAt v key q x (min rounds (q + c)))
-    pub by-back : (c : ℕ) → 1 ≤ c → c ≤ rounds → laneAfter v (loads ∷ moves back c ∷ []) i ≡ shows (q - c) (registersAt v key q x (q - c))
+-- lane i after block x was loaded at position q, and after a move from there
+pub record Reached (v i q key x : ℕ) : Type 0 where
+  pub by-load : laneAfter v (loadCall i q key x ∷ []) i ≡ shows q x
+  pub by-forward : (c : ℕ) → 1 ≤ c → c ≤ rounds
+      → laneAfter v (loadCall i q key x ∷ moveCall forward i c ∷ []) i ≡ shows (min rounds (q + c)) (registersAt v key q x (min rounds (q + c)))
+  pub by-back : (c : ℕ) → 1 ≤ c → c ≤ rounds
+      → laneAfter v (loadCall i q key x ∷ moveCall back i c ∷ []) i ≡ shows (q - c) (registersAt v key q x (q - c))
 
 -- the laws of a bench of variant v
 pub record LawsOf (v : ℕ) : Type 0 where
@@ -85,5 +86,6 @@ pub record LawsOf (v : ℕ) : Type 0 where
   -- every lane can be loaded at every position, and moves from there
   pub reaching : (i q key x : ℕ) → i < laneCount → q ≤ rounds → key < 2 ^ keyLength → x < 2 ^ widthOf v → Reached v i q key x
 
+-- for every variant
 abbrev pub Laws : Type 0
 Laws = (v : ℕ) → 1 ≤ v → v ≤ 6 → LawsOf v

@@ -1,4 +1,4 @@
--- A record's bytes: those that say its fields, and the theorem that a record that is written down is read back as it was. The records of each kind.
+-- A record's bytes: those that say its fields, and the theorem that a record that is written down is read back as it was; the record of each kind.
 -- Assumes nothing.
 use Prim.Native.Nat.{ℕ, _^_, _<_}
 use mathlib.Core.Path.{_≡_}
@@ -33,10 +33,10 @@ pub record RecordFits (r : Record) : Type 0 where
 abbrev pub EveryRecord : Type 0
 EveryRecord = (r : Record) → (length (encode r) ≡ recordLength) × (RecordFits r → decode (encode r) ≡ r)
 
--- a load, its unused field zero
+-- the record of a load, unused fields zero
 abbrev pub loadRecord : (number lane position : ℕ) → Key → (block : ℕ) → Record
 loadRecord n i p key x = record { kind = kindByte load; lane = i; count = p; gap = 0; number = n; mask = 0; key = key; block = x; rest = 0 }
 
--- a move or a clear, its unused fields zero; a clear's count is 0
+-- of a move or a clear
 abbrev pub moveRecord : (kind number mask count : ℕ) → Record
 moveRecord k n m c = record { kind = k; lane = 0; count = c; gap = 0; number = n; mask = m; key = keyOf 0; block = 0; rest = 0 }
