@@ -7,10 +7,12 @@ use mathlib.Core.List.{List, [], _∷_}
 use Prim.Native.Nat.{ℕ, _+_, _^_, _<_}
 use native.Mathlib.Omega.{arith}
 use lib.Dec.{eqb}
+use lib.ListN.{length}
 use borrow.Author.Tests.{leb-false, eqb-true, eqb-false, eq-eqb, not-false}
 use Rattle.katan.specs.Bit.{pick}
 use Rattle.katan.specs.Variant.{widthOf}
 use Rattle.katan.specs.Checks.{Outcome, value, checked, sizeCheck}
+use Rattle.katan.specs.Sizes.{laneCount}
 use Rattle.bench_record.specs.Fields.{sameBytes, recordLength, decode, kind}
 use Rattle.bench_record.specs.Checks.{nonzero, wrongCount, fieldChecks}
 use Rattle.bench_record.proofs.Same.{same-equal}
@@ -39,6 +41,8 @@ same-record n last latest s e h = sym (same-equal latest s (not-false (sameBytes
 
 pub record Accepted (w : View) (s : List ℕ) : Type 0 where
   pub sound : NoFault (sizeCheck recordLength s ∷ fieldChecks (w .variant) (decode s))
+  pub size : length s ≡ recordLength
+  pub lane-in : decode s .lane < laneCount
   pub count-in : wrongCount (kind (decode s)) (decode s .count) ≡ false
   pub block-in : decode s .block < 2 ^ widthOf (w .variant)
   pub turn : (decode s .number ≡ w .last + 1) ⊎ ((decode s .number ≡ w .last) × (0 < w .last))
@@ -51,6 +55,8 @@ module _ (w : View) (s : List ℕ) where
   accepted z =
       record {
         sound = search;
+        size = eqb-true (length s) recordLength (not-false (eqb (length s) recordLength) search);
+        lane-in = leb-false laneCount (decode s .lane) search;
         count-in = search;
         block-in = leb-false (2 ^ widthOf (w .variant)) (decode s .block) search;
         turn = in-turn (decode s .number) (w .last) search;
