@@ -1,4 +1,4 @@
--- The laws of every list.
+-- The laws of every list: what one more arrival is answered and leaves, and that every lane can be loaded and moves.
 -- Assumes nothing.
 use mathlib.Core.Path.{_≡_, refl, sym, ap, ap₂, subst, _∙_}
 use mathlib.Core.Bool.{Bool, true, false, _||_}
@@ -93,11 +93,13 @@ module _ {A : Type 0} (a : A) (k : ℕ) where
 module _ (v : ℕ) where
   -- ---- the latest counted record
 
+  -- it is sound, has the last number, and was answered 'done' with the total that the model keeps
   record Latest (m : Model) (answers : List Answer) (s : List ℕ) : Type 0 where
     sound : SoundRecord v s
     is-last : decode s .number ≡ length (m .counted)
     was-done : List·Memᴰ (value (done (decode s .number) (m .total))) answers
 
+  -- of a model that has given these answers
   abbrev Known : Model → List Answer → Type 0
   Known m answers = (s : List ℕ) (earlier : List (List ℕ)) → m .counted ≡ s ∷ earlier → Latest m answers s
 
@@ -287,6 +289,7 @@ module _ (v : ℕ) (least : 1 ≤ v) (most : v ≤ 6) where
     unfolding machineView
     by-load = shown-by loaded-list i (encode theLoad ∷ []) lane load-counts ∙ ap (machineView v) load-made ∙ ap (shows q) (at-load v key q x)
 
+    -- a forward or a back
     module _ (k : Kind) (c : ℕ) where
       abbrev theMove : Record
       theMove = moveRecord (kindByte k) 2 (2 ^ i) c
@@ -312,6 +315,7 @@ module _ (v : ℕ) (least : 1 ≤ v) (most : v ≤ 6) where
           shown-by (loadCall i q key x ∷ moveCall k i c ∷ []) i (encode theMove ∷ encode theLoad ∷ []) lane both
           ∙ ap (machineView v) (ap₂ (λ (t : Record) (m : Machine). machineStep t i m) move-back load-made ∙ step)
 
+    -- what the checks of a move ask
     module _ (c : ℕ) (some : 1 ≤ c) (few : c ≤ rounds) where
       count-in : (eqb c 0 || ltb rounds c) ≡ false
       count-in = rw (ne-eqb c 0 (λ e. omega arith), le-ltb rounds c few)
