@@ -1,27 +1,28 @@
 -- An input in pieces prints what its lines print, however it is cut.
 -- Assumes nothing.
-use Prim.Native.Nat.{ℕ, suc, _+_, _≤_, _<_, min}
-use mathlib.Core.Path.{_≡_, refl, sym, ap, ap₂, _∙_}
+use Prim.Native.Nat.{ℕ, suc, _+_, _*_, _≤_, _<_, min}
+use mathlib.Core.Path.{_≡_, refl, sym, ap, ap₂, _∙_, subst⁻¹}
 use mathlib.Core.Bool.{Bool, true, false}
 use mathlib.Core.List.{List, [], _∷_, _++_, append-assoc, append-nil}
 use native.Mathlib.Omega.{arith}
 use lib.Dec.{eqb, leb, ltb}
-use lib.ListN.{length, take, set, length-append, length-set}
-use lib.Seq.{take-all, length-take-le, take-suc-set, take-append-le}
+use lib.ListN.{length, take, drop, set, length-append, length-set}
+use lib.Seq.{take-all, drop-length, length-take-le, take-suc-set, take-append-le}
 use borrow.Author.Tests.{leb-true, leb-false, ltb-true, ltb-false, eqb-true, eq-eqb, ne-eqb}
 use Rattle.katan.specs.Bit.{pick}
-use Rattle.script_answers.specs.Printed.{lineFeed}
+use Rattle.script_answers.specs.Printed.{lineFeed, room}
 use Rattle.script_command.specs.Answer.{commandAnswer}
 use Rattle.script_interpreter.specs.Interpreter.{takesAs, onLine, scriptOutput}
 use Rattle.script_interpreter.specs.Session.{noBench, variantOf, openBench, sessionTransition, sessionLine}
 use Rattle.script.specs.Lines.{before, linesOf}
-use Rattle.script.specs.Pieces.{pendingRoom, kept, emptied, lineIn, started, onLineFeed, onByte, onBytes, atEnd, outputInPieces}
-use Rattle.script.specs.Claim.{joined}
+use Rattle.script.specs.Pieces.{pendingRoom, kept, emptied, lineIn, started, onLineFeed, onByte, onBytes, atEnd, onPiece}
+use Rattle.script.specs.Claim.{Handed, Progress, toTake, after, afterCalls, fromStart, input, Roomy}
 use Rattle.script_interpreter.specs.declared.Session.{Session}
 use Rattle.script.specs.declared.Pending.{Pending}
 use Rattle.script.specs.declared.Script.{Script}
 use Rattle.script_interpreter.proofs.Taken.{long-broken}
-use Rattle.script.proofs.Begun.{holding}
+use Rattle.script.proofs.Begun.{holding, byte-feed, byte-more}
+use Rattle.script.proofs.Taken.{nothing-lost, used-up}
 
 abbrev output : Session → List (List ℕ) → List ℕ
 output = scriptOutput variantOf openBench sessionTransition
@@ -123,14 +124,6 @@ at-end x (b ∷ line) n h =
     ∙ sym (append-nil (sessionLine (x .session) (b ∷ line) .1))
     ∙ ap (output (x .session)) (sym (ap linesOf (append-nil (b ∷ line)) ∙ lines-last b line n))
 
-byte-feed : (x : Script) (b : ℕ) → eqb b lineFeed ≡ true → onByte x b ≡ onLineFeed x
-unfolding onByte
-byte-feed x b e = rw e
-
-byte-more : (x : Script) (b : ℕ) → eqb b lineFeed ≡ false → onByte x b ≡ (holding x (kept (x .pending) b), [])
-unfolding onByte
-byte-more x b e = rw e
-
 abbrev Whole : List ℕ → Script → List ℕ → Type 0
 Whole input x line = onBytes x input .1 ++ atEnd (onBytes x input .0) ≡ output (x .session) (linesOf (line ++ input))
 
@@ -174,15 +167,62 @@ on-append x (c ∷ a) b =
     let r = on-append (onByte x c .0) a b in
     (r .0, ap (λ (l : List ℕ). onByte x c .1 ++ l) (r .1) ∙ sym (append-assoc (onByte x c .1) (onBytes (onByte x c .0) a .1) (onBytes (onBytes (onByte x c .0) a .0) b .1)))
 
-all-pieces : (x : Script) (pieces : List (List ℕ)) → outputInPieces x pieces ≡ onBytes x (joined pieces) .1 ++ atEnd (onBytes x (joined pieces) .0)
-unfolding outputInPieces onBytes
-all-pieces x [] = refl
-all-pieces x (piece ∷ pieces) =
-    let r = on-append x piece (joined pieces) in
-    ap (λ (l : List ℕ). onBytes x piece .1 ++ l) (all-pieces (onBytes x piece .0) pieces)
-    ∙ sym (append-assoc (onBytes x piece .1) (onBytes (onBytes x piece .0) (joined pieces) .1) (atEnd (onBytes (onBytes x piece .0) (joined pieces) .0)))
-    ∙ sym (ap₂ (λ (l : List ℕ) (y : Script). l ++ atEnd y) (r .1) (r .0))
+-- ---- calls
+
+-- what the rest of an input prints, with its end
+abbrev printedBy : Script → List ℕ → List ℕ
+printedBy x bytes = onBytes x bytes .1 ++ atEnd (onBytes x bytes .0)
+
+printed-append : (x : Script) (a b : List ℕ) → printedBy x (a ++ b) ≡ onBytes x a .1 ++ printedBy (onBytes x a .0) b
+printed-append x a b =
+    let r = on-append x a b in
+    ap₂ (λ (l : List ℕ) (y : Script). l ++ atEnd y) (r .1) (r .0)
+    ∙ append-assoc (onBytes x a .1) (onBytes (onBytes x a .0) b .1) (atEnd (onBytes (onBytes x a .0) b .0))
+
+-- a call and the rest of its piece, before more of the input
+call-append : (space : ℕ) (x : Script) (piece more : List ℕ)
+    → onPiece space x piece .output ++ printedBy (onPiece space x piece .script) (drop (onPiece space x piece .used) piece ++ more) ≡ printedBy x (piece ++ more)
+call-append space x piece more =
+    let t = onPiece space x piece in
+    let rest = drop (t .used) piece in
+    ap (λ (l : List ℕ). t .output ++ l) (printed-append (t .script) rest more)
+    ∙ sym (append-assoc (t .output) (onBytes (t .script) rest .1) (printedBy (onBytes (t .script) rest .0) more))
+    ∙ ap (λ (u : Script × List ℕ). u .1 ++ printedBy (u .0) more) (nothing-lost space x piece)
+    ∙ sym (printed-append x piece more)
+
+-- all that is printed, where the rest of an input comes after what is left
+abbrev inAll : Progress → List ℕ → List ℕ
+inAll p rest = p .output ++ printedBy (p .script) (p .left ++ rest)
+
+calls : (p : Progress) (handed : List Handed) → inAll (afterCalls p handed) [] ≡ inAll p (input handed)
+unfolding afterCalls
+calls p [] = refl
+calls p (h ∷ handed) =
+    let piece = toTake p h in
+    let t = onPiece (h .space) (p .script) piece in
+    calls (after p piece t) handed
+    ∙ append-assoc (p .output) (t .output) (printedBy (t .script) (drop (t .used) piece ++ input handed))
+    ∙ ap (λ (l : List ℕ). p .output ++ l) (call-append (h .space) (p .script) piece (input handed))
+    ∙ ap (λ (l : List ℕ). p .output ++ printedBy (p .script) l) (append-assoc (p .left) (h .piece) (input handed))
 
 -- an input in pieces prints what its lines print
-pub cut-lines : (pieces : List (List ℕ)) → outputInPieces started pieces ≡ output noBench (linesOf (joined pieces))
-cut-lines pieces = all-pieces started pieces ∙ whole (joined pieces) started [] tt (record { room = refl; size = refl; text = refl })
+pub cut-lines : (handed : List Handed) → fromStart handed .left ≡ [] → fromStart handed .output ++ atEnd (fromStart handed .script) ≡ output noBench (linesOf (input handed))
+unfolding onBytes
+cut-lines handed e =
+    let p = fromStart handed in
+    sym (ap (λ (l : List ℕ). p .output ++ printedBy (p .script) (l ++ [])) e)
+    ∙ calls (record { script = started; left = []; output = [] }) handed
+    ∙ whole (input handed) started [] tt (record { room = refl; size = refl; text = refl })
+
+roomy : (p : Progress) (handed : List Handed) → Roomy handed → p .left ≡ [] → afterCalls p handed .left ≡ []
+unfolding afterCalls
+roomy p [] r e = e
+roomy p (h ∷ handed) r e =
+    let piece = toTake p h in
+    let t = onPiece (h .space) (p .script) piece in
+    let same : piece ≡ h .piece = ap (λ (l : List ℕ). l ++ h .piece) e in
+    let all : t .used ≡ length piece = used-up (h .space) (p .script) piece (subst⁻¹ (λ (l : List ℕ). length l * room ≤ h .space) same (r .0)) in
+    roomy (after p piece t) handed (r .1) (ap (λ (n : ℕ). drop n piece) all ∙ drop-length piece)
+
+pub none-left : (handed : List Handed) → Roomy handed → fromStart handed .left ≡ []
+none-left handed r = roomy (record { script = started; left = []; output = [] }) handed r refl

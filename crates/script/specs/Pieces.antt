@@ -1,17 +1,17 @@
 -- An input taken in pieces: what each byte leaves, and prints.
 -- Assumes nothing.
-use Prim.Native.Nat.{ℕ, suc, _+_, min}
+use Prim.Native.Nat.{ℕ, suc, _+_, _-_, _*_}
 use mathlib.Core.List.{List, [], _∷_, _++_}
-use lib.Dec.{eqb, ltb}
-use lib.ListN.{length, take, set, replicate}
+use lib.Dec.{eqb, leb, ltb}
+use lib.ListN.{length, take, drop, set, replicate}
 use Rattle.katan.specs.Bit.{pick}
-use Rattle.script_answers.specs.Printed.{lineFeed, printedAs}
+use Rattle.script_answers.specs.Printed.{lineFeed, room}
 use Rattle.script_command.specs.Written.{lineLength}
 use Rattle.script_interpreter.specs.Session.{noBench, sessionLine}
 use Rattle.script_interpreter.specs.declared.Session.{Session}
 use Rattle.script.specs.declared.Pending.{Pending}
 use Rattle.script.specs.declared.Script.{Script}
-use Rattle.script.specs.declared.Step.{Step}
+use Rattle.script.specs.declared.Answered.{Answered}
 
 -- a line that has begun: one byte more than a line may have tells that it is too long
 abbrev pub pendingRoom : ℕ
@@ -52,23 +52,38 @@ onBytes x (b ∷ bytes) = (onBytes (onByte x b .0) bytes .0, onByte x b .1 ++ on
 unfoldable pub atEnd : Script → List ℕ
 atEnd x = pick (eqb (x .pending .length) 0) [] (sessionLine (x .session) (lineIn (x .pending)) .1)
 
--- the output of an input that comes in pieces
-unfoldable pub outputInPieces : Script → List (List ℕ) → List ℕ
-outputInPieces x [] = atEnd x
-outputInPieces x (piece ∷ pieces) = onBytes x piece .1 ++ outputInPieces (onBytes x piece .0) pieces
+-- ---- a call: a piece of the input, and the space lent for what it prints
 
--- ---- a call of the code: it takes a piece up to and with its first line feed
+-- the script that a call leaves, how many bytes of the piece it has taken, and what it prints
+pub record Taken : Type 0 where
+  pub script : Script
+  pub used : ℕ
+  pub output : List ℕ
 
--- how many bytes stand before the first line feed
-unfoldable pub lineEnd : List ℕ → ℕ
-lineEnd [] = 0
-lineEnd (b ∷ piece) = pick (eqb b lineFeed) 0 (suc (lineEnd piece))
+abbrev pub nothingTaken : Script → Taken
+nothingTaken x = record { script = x; used = 0; output = [] }
 
-abbrev pub usedOf : List ℕ → ℕ
-usedOf piece = min (length piece) (suc (lineEnd piece))
+-- n bytes more in front, which print the output
+abbrev pub takenAfter : (n : ℕ) (output : List ℕ) → Taken → Taken
+takenAfter n output t = record { script = t .script; used = n + t .used; output = output ++ t .output }
 
-abbrev pub stepResult : ℕ → Script × List ℕ → Step
-stepResult used t = record { script = t .0; used = used; printed = printedAs (t .1) }
+-- bytes are taken one after the other, up to the first for whose output the space that is left is too small
+unfoldable pub onPiece : (space : ℕ) → Script → (piece : List ℕ) → Taken
+onPiece space x [] = nothingTaken x
+onPiece space x (b ∷ piece) = pick (leb (length (onByte x b .1)) space)
+    (takenAfter 1 (onByte x b .1) (onPiece (space - length (onByte x b .1)) (onByte x b .0) piece)) (nothingTaken x)
 
-unfoldable pub stepOn : Script → List ℕ → Step
-stepOn x piece = stepResult (usedOf piece) (onBytes x (take (usedOf piece) piece))
+-- what the code gives back
+abbrev pub answeredAs : Taken → Answered
+answeredAs t = record { script = t .script; used = t .used; count = length (t .output) }
+
+-- the output at the start of the memory lent for it; the rest of it stays as it was
+abbrev pub writtenTo : (memory output : List ℕ) → List ℕ
+writtenTo memory output = output ++ drop (length output) memory
+
+-- a piece as the program reads it, and an output with room for a line for each of its bytes
+abbrev pub pieceLength : ℕ
+pieceLength = 4096
+
+abbrev pub outputLength : ℕ
+outputLength = pieceLength * room

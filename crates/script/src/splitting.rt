@@ -2,8 +2,7 @@
 ghost use mathlib.Core.Path.{_≡_};
 ghost use Prim.Native.Nat.{_≤_};
 ghost use lib.ListN.{length};
-ghost use Rattle.script.specs.Pieces.{lineEnd};
-ghost use Rattle.script.specs.inner.Kept.{keptAll};
+ghost use Rattle.script.specs.inner.Kept.{lineEnd, keptAll};
 use crate::PENDING;
 use crate::Pending;
 

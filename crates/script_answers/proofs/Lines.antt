@@ -5,15 +5,17 @@ use mathlib.Core.Path.{_≡_, refl, ap, ap₂, _∙_}
 use mathlib.Core.List.{List, [], _∷_, _++_}
 use native.Mathlib.Nat.{sub-zero, zero-sub, suc-sub-suc}
 use native.Mathlib.Omega.{arith}
-use mathlib.Core.Bool.{true, false}
-use borrow.Author.Tests.{le-leb, lt-leb}
 use lib.ListN.{length, replicate, drop, length-append}
+use Rattle.katan.specs.Checks.{value, refused}
+use Rattle.script_form.specs.Form.{blockDigits}
 use Rattle.script_form.proofs.Lengths.{decimal-most, length-fixed}
+use Rattle.script_form.proofs.Blocks.{digits-fit}
 use Rattle.script_answers.specs.declared.Printed.{Printed}
+use Rattle.bench.specs.Calls.{done, again, at, Answer}
 use Rattle.bench.specs.Bench.{replyAnswer}
 use Rattle.bench.specs.declared.Reply.{Reply}
 use Rattle.bench.specs.declared.Reply.the-variants.{Done, Again, Refused}
-use Rattle.script_answers.specs.Printed.{lineAs, answerLine, printedAs, room, fits}
+use Rattle.script_answers.specs.Printed.{lineAs, openedLine, answerLine, printedAs, room}
 
 pub drop-zeros : (k n : ℕ) → drop {A = ℕ} k (replicate n 0) ≡ replicate (n - k) 0
 drop-zeros zero n = rw (sub-zero n)
@@ -48,14 +50,15 @@ reply-line v lane (Done number total) = refl
 reply-line v lane (Again number total) = refl
 reply-line v lane (Refused k) = refl
 
--- ---- whether a printed line fits an output
+-- ---- every printed line
 
-module _ (p : Printed) (out : List ℕ) (from : ℕ) where
-  pub too-long : room < p .length → fits p out from ≡ false
-  too-long h = rw (lt-leb (p .length) room h)
+pub opened-line-fits : (v : ℕ) → length (openedLine v) ≤ room
+unfolding openedLine
+opened-line-fits v = opened-fits v 0
 
-  pub no-place : p .length ≤ room → length out < from + p .length → fits p out from ≡ false
-  no-place h g = rw (le-leb (p .length) room h, lt-leb (from + p .length) (length out) g)
-
-  pub has-place : p .length ≤ room → from + p .length ≤ length out → fits p out from ≡ true
-  has-place h g = rw (le-leb (p .length) room h, le-leb (from + p .length) (length out) g)
+pub answer-line-fits : (v lane : ℕ) (a : Answer) → length (answerLine v lane a) ≤ room
+unfolding answerLine
+answer-line-fits v lane (value (done number total)) = done-fits number total
+answer-line-fits v lane (value (again number total)) = again-fits number total
+answer-line-fits v lane (value (at r)) = at-fits lane (r .position .0) (blockDigits v) (r .registers) (digits-fit v)
+answer-line-fits v lane (refused k) = refused-fits k 0

@@ -2,7 +2,6 @@
 -- Assumes nothing.
 use Prim.Native.Nat.{ℕ, zero, suc, _+_, _-_, _/_, _%_, _^_, _≤_, _<_}
 use mathlib.Core.Path.{_≡_, refl, sym, ap, _∙_, subst, subst⁻¹}
-use mathlib.Core.Bool.{Bool, true, false}
 use mathlib.Core.List.{List, [], _∷_, _++_, append-assoc, append-nil}
 use native.Mathlib.Nat.{sub-zero, add-zero}
 use native.Mathlib.Numerals.{add-one}
@@ -17,6 +16,7 @@ use Rattle.script_form.proofs.Lengths.{div-step, decimal-fixed, length-fixed}
 use Rattle.script_answers.specs.inner.Pieces.{textOf, valuesTaken, shapeText, shapeTaken, BaseFits, Shapes, putAt}
 use Rattle.script_answers.specs.declared.form.Shape.{Shape}
 use Rattle.script_answers.specs.declared.form.Shape.the-variants.{Letter, Digits}
+
 
 -- ---- digits
 
@@ -172,17 +172,3 @@ module _ (s : Shape) (d p v : ℕ) (h : Shapes s (pieceOf d p) p v) where
   pub digits-put : (base count : ℕ) → AsDigits base count → (at : ℕ) (out : List ℕ)
       → take at out ++ (fixed base count v ++ drop (at + count) out) ≡ putAt at (textOf (pieceOf d p) p v) out
   digits-put base count l at out = rw (l .size, l .text)
-
--- ---- a printed line put into a longer output
-
-pub copied-more : (from out start : List ℕ) (at n i : ℕ) → i < n → n ≤ length from → at + i < length out
-    → out ≡ take at start ++ (take i from ++ drop (at + i) start) → length out ≡ length start
-    → set out (at + i) (getD from i 0) ≡ take at start ++ (take (i + 1) from ++ drop (at + (i + 1)) start)
-copied-more from out start at n i more le room e len =
-    let s : at + (i + 1) ≡ suc (at + i) = omega arith in
-    let inside : at + i < length start = omega arith in
-    let front : length (take at start ++ take i from) ≡ at + i = rw (length-append (take at start) (take i from), length-take-le at start (omega arith), length-take-le i from (omega arith)) in
-    rw (e, s, add-one i, take-suc from i 0 (omega arith), drop-cons start (at + i) 0 inside, ← append-assoc (take at start) (take i from) (getD start (at + i) 0 ∷ drop (suc (at + i)) start))
-    (set-at (take at start ++ take i from) (getD start (at + i) 0) (drop (suc (at + i)) start) (getD from i 0) (at + i) front
-    ∙ append-assoc (take at start) (take i from) (getD from i 0 ∷ drop (suc (at + i)) start)
-    ∙ ap (λ (l : List ℕ). take at start ++ l) (sym (append-snoc (take i from) (getD from i 0) (drop (suc (at + i)) start))))

@@ -1,12 +1,9 @@
 -- The line that each answer prints (document 01, "Script").
 -- Assumes nothing.
-use Prim.Native.Nat.{ℕ, _+_, _-_, _/_}
+use Prim.Native.Nat.{ℕ, _-_}
 use Prim.Native.String.{String}
 use mathlib.Core.List.{List, [], _∷_, _++_}
-use mathlib.Core.Bool.{Bool, _&&_}
-use lib.Dec.{leb}
-use lib.ListN.{length, take, drop, replicate}
-use Rattle.katan.specs.Bit.{pick}
+use lib.ListN.{length, replicate}
 use Rattle.katan.specs.Checks.{value, refused}
 use Rattle.bench.specs.Calls.{done, again, at, Answer}
 use Rattle.script_form.specs.Form.{bytes, fill, blockDigits}
@@ -37,14 +34,3 @@ room = 64
 -- a printed line in it, and zeros after
 abbrev pub printedAs : List ℕ → Printed
 printedAs line = record { bytes = line ++ replicate (room - length line) 0; length = length line }
-
--- ---- a printed line put at a place of an output, where it fits
-
-abbrev pub fits : Printed → List ℕ → ℕ → Bool
-fits p out from = leb (p .length) room && leb (from + p .length) (length out)
-
-abbrev pub placeAfter : Printed → List ℕ → ℕ → ℕ
-placeAfter p out from = pick (fits p out from) (from + p .length) from
-
-abbrev pub outputWith : Printed → List ℕ → ℕ → List ℕ
-outputWith p out from = pick (fits p out from) (take from out ++ (take (p .length) (p .bytes) ++ drop (from + p .length) out)) out

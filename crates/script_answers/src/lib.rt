@@ -1,12 +1,12 @@
 // The line that each answer prints.
 ghost use mathlib.Core.Path.{_≡_};
-ghost use mathlib.Core.List.{[], _∷_, _++_};
-ghost use Prim.Native.Nat.{_+_, _≤_};
-ghost use lib.ListN.{length, take, drop, replicate};
+ghost use mathlib.Core.List.{[]};
+ghost use Prim.Native.Nat.{_≤_};
+ghost use lib.ListN.{length, replicate};
 ghost use Rattle.katan.specs.Checks.{numberOf, refused};
 ghost use Rattle.bench.specs.Bench.{replyAnswer, readingAnswer};
 ghost use Rattle.script_form.specs.Form.{fill};
-ghost use Rattle.script_answers.specs.Printed.{openedLine, answerLine, room, printedAs, placeAfter, outputWith};
+ghost use Rattle.script_answers.specs.Printed.{openedLine, answerLine, room, printedAs};
 use crate::form::write_form;
 use bench::ReadAnswer;
 use bench::Reply;
@@ -93,36 +93,4 @@ pub fn reading_line(variant: u8, lane: u8, answer: ReadAnswer) -> Printed
         ),
         ReadAnswer::Refused(reason) => refused_line(reason),
     }
-}
-
-// Copies `count` bytes to `at`.
-fn copy(from: &[u8], count: usize, out: &mut [u8], at: usize)
-    requires { ⌜ (count ≤ length (now from)) × (at + count ≤ length (now out)) ⌝ }
-    ensures { λ _. ⌜ now (out .exit) ≡ take at (now (out .entry)) ++ (take count (now (from .entry)) ++ drop (at + count) (now (out .entry))) ⌝ }
-{
-    let mut i: usize = 0;
-    while i < count {
-        let j = at + i;
-        out[j] = from[i];
-        i += 1;
-    }
-}
-
-// Puts a printed line at `at` of an output, where it fits; the place after it.
-pub fn put(printed: Printed, out: &mut [u8], at: usize) -> usize
-    ensures { λ r. ⌜ (r ≡ placeAfter printed (now (out .entry)) at) × (now (out .exit) ≡ outputWith printed (now (out .entry)) at) ⌝ }
-{
-    let bytes = printed.bytes;
-    let count = printed.length;
-    if ROOM < count {
-        return at;
-    }
-    if out.len() < count {
-        return at;
-    }
-    if out.len() - count < at {
-        return at;
-    }
-    copy(&bytes, count, out, at);
-    at + count
 }

@@ -4,7 +4,7 @@ use mathlib.Core.Path.{_≡_}
 use native.Mathlib.Nat.{zero-add}
 use native.Mathlib.Omega.{arith}
 use lib.ListN.{length, drop}
-use Rattle.script.specs.Pieces.{lineEnd}
+use Rattle.script.specs.inner.Kept.{lineEnd}
 use Rattle.script.proofs.Begun.{end-here, end-later, end-none}
 use Rattle.script.proofs.splitting.line_end.Statement.{statement}
 use Rattle.script.proofs.splitting.line_end.Tie as tie

@@ -1,0 +1,90 @@
+-- What a call takes of a piece.
+-- Assumes nothing.
+use Prim.Native.Nat.{ℕ, suc, _+_, _-_, _*_, _≤_, _<_}
+use mathlib.Core.Path.{_≡_, refl, sym, ap, ap₂, _∙_}
+use mathlib.Core.Bool.{Bool, true, false}
+use mathlib.Core.List.{List, [], _∷_, _++_, append-assoc}
+use native.Mathlib.Omega.{arith}
+use lib.Dec.{leb}
+use lib.ListN.{length, drop, length-append}
+use borrow.Author.Tests.{leb-true, leb-false, le-leb, lt-leb}
+use Rattle.katan.specs.Bit.{pick}
+use Rattle.script_answers.specs.Printed.{room}
+use Rattle.script.specs.Pieces.{onByte, onBytes, Taken, nothingTaken, takenAfter, onPiece, pieceLength, outputLength}
+use Rattle.script.specs.Claim.{andTheRest, EveryPiece}
+use Rattle.script.specs.declared.Script.{Script}
+use Rattle.script.proofs.Room.{byte-fits}
+
+-- ---- a byte of a piece
+
+module _ (space : ℕ) (x : Script) (b : ℕ) (piece : List ℕ) where
+  -- with what it leaves and prints
+  abbrev withByte : Script × List ℕ → Taken
+  withByte u = takenAfter 1 (u .1) (onPiece (space - length (u .1)) (u .0) piece)
+
+  module _ (u : Script × List ℕ) (e : onByte x b ≡ u) where
+    pub byte-taken : length (u .1) ≤ space → onPiece space x (b ∷ piece) ≡ withByte u
+    unfolding onPiece
+    byte-taken h = rw (e, le-leb (length (u .1)) space h)
+
+    pub byte-left : space < length (u .1) → onPiece space x (b ∷ piece) ≡ nothingTaken x
+    unfolding onPiece
+    byte-left h = rw (e, lt-leb (length (u .1)) space h)
+
+  -- it is taken or not
+  by-byte : (P : Taken → Type 0) → (length (onByte x b .1) ≤ space → P (withByte (onByte x b))) → P (nothingTaken x) → P (onPiece space x (b ∷ piece))
+  unfolding onPiece
+  by-byte P taken left = go (leb (length (onByte x b .1)) space) refl
+    where
+      go : (t : Bool) → leb (length (onByte x b .1)) space ≡ t → P (pick t (withByte (onByte x b)) (nothingTaken x))
+      go true e = taken (leb-true _ _ e)
+      go false e = left
+
+-- ---- a piece
+
+pub nothing-lost : (space : ℕ) (x : Script) (piece : List ℕ) → andTheRest piece (onPiece space x piece) ≡ onBytes x piece
+unfolding onPiece onBytes
+nothing-lost space x [] = refl
+nothing-lost space x (b ∷ piece) =
+    let o = onByte x b .1 in
+    let t = onPiece (space - length o) (onByte x b .0) piece in
+    let next : 1 + t .used ≡ suc (t .used) = omega arith in
+    let rest = onBytes (t .script) (drop (t .used) piece) in
+    by-byte space x b piece (λ (u : Taken). andTheRest (b ∷ piece) u ≡ onBytes x (b ∷ piece))
+    (λ h.
+      ap (λ (n : ℕ). (onBytes (t .script) (drop n (b ∷ piece)) .0, (o ++ t .output) ++ onBytes (t .script) (drop n (b ∷ piece)) .1)) next
+      ∙ ap (λ (l : List ℕ). (rest .0, l)) (append-assoc o (t .output) (rest .1))
+      ∙ ap (λ (u : Script × List ℕ). (u .0, o ++ u .1)) (nothing-lost (space - length o) (onByte x b .0) piece))
+    refl
+
+has-space : (space : ℕ) (x : Script) (piece : List ℕ) → length (onPiece space x piece .output) ≤ space
+unfolding onPiece
+has-space space x [] = omega arith
+has-space space x (b ∷ piece) =
+    by-byte space x b piece (λ (t : Taken). length (t .output) ≤ space)
+    (λ h. simp length-append (omega (arith, has-space (space - length (onByte x b .1)) (onByte x b .0) piece)))
+    (omega arith)
+
+within : (space : ℕ) (x : Script) (piece : List ℕ) → onPiece space x piece .used ≤ length piece
+unfolding onPiece
+within space x [] = omega arith
+within space x (b ∷ piece) =
+    by-byte space x b piece (λ (t : Taken). t .used ≤ suc (length piece)) (λ h. omega (arith, within (space - length (onByte x b .1)) (onByte x b .0) piece)) (omega arith)
+
+goes-on : (space : ℕ) (x : Script) (piece : List ℕ) → room ≤ space → 1 ≤ length piece → 1 ≤ onPiece space x piece .used
+goes-on space x [] h g = omega arith
+goes-on space x (b ∷ piece) h g = rw (byte-taken space x b piece (onByte x b) refl (omega (arith, byte-fits x b))) (omega arith)
+
+pub used-up : (space : ℕ) (x : Script) (piece : List ℕ) → length piece * room ≤ space → onPiece space x piece .used ≡ length piece
+unfolding onPiece
+used-up space x [] h = refl
+used-up space x (b ∷ piece) h =
+    let f = byte-fits x b in
+    rw (byte-taken space x b piece (onByte x b) refl (omega arith)) (omega (arith, used-up (space - length (onByte x b .1)) (onByte x b .0) piece (omega arith)))
+
+all-read : (x : Script) (piece : List ℕ) → length piece ≤ pieceLength → onPiece outputLength x piece .used ≡ length piece
+all-read x piece h = used-up outputLength x piece (omega arith)
+
+-- THEOREM: for every script, piece and space a call loses nothing
+pub every-piece : EveryPiece
+every-piece = record { nothing-lost = nothing-lost; has-space = has-space; within = within; goes-on = goes-on; used-up = used-up; all-read = all-read }
