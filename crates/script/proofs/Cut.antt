@@ -15,8 +15,8 @@ use Rattle.script_command.specs.Answer.{commandAnswer}
 use Rattle.script_interpreter.specs.Interpreter.{takesAs, onLine, scriptOutput}
 use Rattle.script_interpreter.specs.Session.{noBench, variantOf, openBench, sessionTransition, sessionLine}
 use Rattle.script.specs.Lines.{before, linesOf}
-use Rattle.script.specs.Pieces.{pendingRoom, kept, emptied, lineIn, started, onLineFeed, onByte, onBytes, atEnd, onPiece}
-use Rattle.script.specs.Claim.{Handed, Progress, toTake, after, afterCalls, fromStart, input, Roomy}
+use Rattle.script.specs.Pieces.{pendingRoom, kept, emptied, lineIn, started, onLineFeed, onByte, onBytes, atEnd, Taken, onPiece}
+use Rattle.script.specs.Claim.{Handed, Progress, nextCall, afterCalls, fromStart, input, Roomy}
 use Rattle.script_interpreter.specs.declared.Session.{Session}
 use Rattle.script.specs.declared.Pending.{Pending}
 use Rattle.script.specs.declared.Script.{Script}
@@ -198,9 +198,9 @@ calls : (p : Progress) (handed : List Handed) → inAll (afterCalls p handed) []
 unfolding afterCalls
 calls p [] = refl
 calls p (h ∷ handed) =
-    let piece = toTake p h in
+    let piece = p .left ++ h .piece in
     let t = onPiece (h .space) (p .script) piece in
-    calls (after p piece t) handed
+    calls (nextCall p h) handed
     ∙ append-assoc (p .output) (t .output) (printedBy (t .script) (drop (t .used) piece ++ input handed))
     ∙ ap (λ (l : List ℕ). p .output ++ l) (call-append (h .space) (p .script) piece (input handed))
     ∙ ap (λ (l : List ℕ). p .output ++ printedBy (p .script) l) (append-assoc (p .left) (h .piece) (input handed))
@@ -218,11 +218,10 @@ roomy : (p : Progress) (handed : List Handed) → Roomy handed → p .left ≡ [
 unfolding afterCalls
 roomy p [] r e = e
 roomy p (h ∷ handed) r e =
-    let piece = toTake p h in
-    let t = onPiece (h .space) (p .script) piece in
+    let piece = p .left ++ h .piece in
     let same : piece ≡ h .piece = ap (λ (l : List ℕ). l ++ h .piece) e in
-    let all : t .used ≡ length piece = used-up (h .space) (p .script) piece (subst⁻¹ (λ (l : List ℕ). length l * room ≤ h .space) same (r .0)) in
-    roomy (after p piece t) handed (r .1) (ap (λ (n : ℕ). drop n piece) all ∙ drop-length piece)
+    let all = used-up (h .space) (p .script) piece (subst⁻¹ (λ (l : List ℕ). length l * room ≤ h .space) same (r .0)) in
+    roomy (nextCall p h) handed (r .1) (ap (λ (t : Taken). drop (t .used) piece) all ∙ drop-length piece)
 
 pub none-left : (handed : List Handed) → Roomy handed → fromStart handed .left ≡ []
 none-left handed r = roomy (record { script = started; left = []; output = [] }) handed r refl

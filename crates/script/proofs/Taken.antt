@@ -3,14 +3,15 @@
 use Prim.Native.Nat.{ℕ, suc, _+_, _-_, _*_, _≤_, _<_}
 use mathlib.Core.Path.{_≡_, refl, sym, ap, ap₂, _∙_}
 use mathlib.Core.Bool.{Bool, true, false}
-use mathlib.Core.List.{List, [], _∷_, _++_, append-assoc}
+use mathlib.Core.List.{List, [], _∷_, _++_, append-assoc, append-nil}
 use native.Mathlib.Omega.{arith}
 use lib.Dec.{leb}
 use lib.ListN.{length, drop, length-append}
+use lib.Seq.{drop-length}
 use borrow.Author.Tests.{leb-true, leb-false, le-leb, lt-leb}
 use Rattle.katan.specs.Bit.{pick}
 use Rattle.script_answers.specs.Printed.{room}
-use Rattle.script.specs.Pieces.{onByte, onBytes, Taken, nothingTaken, takenAfter, onPiece, pieceLength, outputLength}
+use Rattle.script.specs.Pieces.{onByte, onBytes, Taken, nothingTaken, takenAfter, onPiece, allTaken, pieceLength, outputLength}
 use Rattle.script.specs.Claim.{andTheRest, EveryPiece}
 use Rattle.script.specs.declared.Script.{Script}
 use Rattle.script.proofs.Room.{byte-fits}
@@ -57,7 +58,7 @@ nothing-lost space x (b ∷ piece) =
       ∙ ap (λ (u : Script × List ℕ). (u .0, o ++ u .1)) (nothing-lost (space - length o) (onByte x b .0) piece))
     refl
 
-has-space : (space : ℕ) (x : Script) (piece : List ℕ) → length (onPiece space x piece .output) ≤ space
+pub has-space : (space : ℕ) (x : Script) (piece : List ℕ) → length (onPiece space x piece .output) ≤ space
 unfolding onPiece
 has-space space x [] = omega arith
 has-space space x (b ∷ piece) =
@@ -75,14 +76,28 @@ goes-on : (space : ℕ) (x : Script) (piece : List ℕ) → room ≤ space → 1
 goes-on space x [] h g = omega arith
 goes-on space x (b ∷ piece) h g = rw (byte-taken space x b piece (onByte x b) refl (omega (arith, byte-fits x b))) (omega arith)
 
-pub used-up : (space : ℕ) (x : Script) (piece : List ℕ) → length piece * room ≤ space → onPiece space x piece .used ≡ length piece
+all-used : (space : ℕ) (x : Script) (piece : List ℕ) → length piece * room ≤ space → onPiece space x piece .used ≡ length piece
 unfolding onPiece
-used-up space x [] h = refl
-used-up space x (b ∷ piece) h =
+all-used space x [] h = refl
+all-used space x (b ∷ piece) h =
     let f = byte-fits x b in
-    rw (byte-taken space x b piece (onByte x b) refl (omega arith)) (omega (arith, used-up (space - length (onByte x b .1)) (onByte x b .0) piece (omega arith)))
+    rw (byte-taken space x b piece (onByte x b) refl (omega arith)) (omega (arith, all-used (space - length (onByte x b .1)) (onByte x b .0) piece (omega arith)))
 
-all-read : (x : Script) (piece : List ℕ) → length piece ≤ pieceLength → onPiece outputLength x piece .used ≡ length piece
+pub used-up : (space : ℕ) (x : Script) (piece : List ℕ) → length piece * room ≤ space → onPiece space x piece ≡ allTaken x piece
+unfolding onBytes
+used-up space x piece h =
+    let t = onPiece space x piece in
+    let u = all-used space x piece h in
+    let none : drop (t .used) piece ≡ [] = ap (λ (n : ℕ). drop n piece) u ∙ drop-length piece in
+    let make : ℕ → Script × List ℕ → Taken = λ (n : ℕ) (v : Script × List ℕ). record { script = v .0; used = n; output = v .1 } in
+    let left : (t .script, t .output) ≡ onBytes x piece =
+        ap (λ (l : List ℕ). (t .script, l)) (sym (append-nil (t .output)))
+        ∙ ap (λ (l : List ℕ). (onBytes (t .script) l .0, t .output ++ onBytes (t .script) l .1)) (sym none)
+        ∙ nothing-lost space x piece
+    in
+    ap₂ make u left
+
+pub all-read : (x : Script) (piece : List ℕ) → length piece ≤ pieceLength → onPiece outputLength x piece ≡ allTaken x piece
 all-read x piece h = used-up outputLength x piece (omega arith)
 
 -- THEOREM: for every script, piece and space a call loses nothing

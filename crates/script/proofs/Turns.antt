@@ -166,9 +166,9 @@ module _ (piece start : List ℕ) (x : Script) (out : List ℕ) (now : Script) (
     pub result : _≡_ {A = Answered} (record { script = now; used = used; count = count }) (answeredAs (onPiece (length start) x piece))
     pub output : out ≡ writtenTo start (onPiece (length start) x piece .output)
 
-  promised : count ≤ length start → length out ≡ length start → drop count out ≡ drop count start
+  keeps-promise : count ≤ length start → length out ≡ length start → drop count out ≡ drop count start
       → onPiece (length start) x piece ≡ takenAfter used (take count out) (nothingTaken now) → Promised
-  promised h same rest w =
+  keeps-promise h same rest w =
       let size : length (take count out) ≡ count = length-take-le count out (omega arith) in
       let all : take count out ++ [] ≡ take count out = append-nil (take count out) in
       let written : onPiece (length start) x piece .output ≡ take count out = ap (λ (t : Taken). t .output) w ∙ all in
@@ -185,7 +185,7 @@ module _ (piece start : List ℕ) (x : Script) (out : List ℕ) (now : Script) (
   pub going-end : length piece ≤ used → Promised piece start x out now used count
   unfolding onPiece
   going-end h =
-      promised piece start x out now used count (g .has-space) (g .same-length) (g .untouched)
+      keeps-promise piece start x out now used count (g .has-space) (g .same-length) (g .untouched)
       (g .whole ∙ ap (λ (l : List ℕ). takenAfter used (take count out) (onPiece (length start - count) now l)) (drop-of-length-le piece h))
 
   -- the step that the code's call of next_line gives
@@ -207,7 +207,7 @@ module _ (piece start : List ℕ) (x : Script) (out : List ℕ) (now : Script) (
     pub going-stop : s .«is_line» ≡ false → Promised piece start x out (s .script) (used + s .used) count
     going-stop f =
         let w = rw f at step-whole in
-        promised piece start x out (s .script) (used + s .used) count (g .has-space) (g .same-length) (g .untouched)
+        keeps-promise piece start x out (s .script) (used + s .used) count (g .has-space) (g .same-length) (g .untouched)
         (w ∙ after-after used (s .used) (take count out) [] (nothingTaken (s .script)) ∙ ap (λ (l : List ℕ). takenAfter (used + s .used) l (nothingTaken (s .script))) (append-nil (take count out)))
 
     pub going-on : s .«is_line» ≡ true → length (s .printed .bytes) ≡ room → (put : List ℕ) → put ≡ paste out count (s .printed .bytes) (s .printed .length)

@@ -8,12 +8,12 @@ use Rattle.script_answers.specs.Printed.{room}
 use Rattle.script_interpreter.specs.Interpreter.{scriptOutput}
 use Rattle.script_interpreter.specs.Session.{none, fresh, machinesVariant, machinesTransition}
 use Rattle.script.specs.Lines.{linesOf}
-use Rattle.script.specs.Pieces.{started, onBytes, atEnd, Taken, onPiece, pieceLength, outputLength}
+use Rattle.script.specs.Pieces.{started, onBytes, atEnd, Taken, onPiece, allTaken, pieceLength, outputLength}
 use Rattle.script.specs.declared.Script.{Script}
 
 -- ---- one call
 
--- a call, and then what the rest of its piece makes of the script that it leaves: the last script, and all that is printed
+-- a call, and then the rest of its piece: the script after both, and all that they print
 abbrev pub andTheRest : (piece : List ℕ) → Taken → Script × List ℕ
 andTheRest piece t = (onBytes (t .script) (drop (t .used) piece) .0, t .output ++ onBytes (t .script) (drop (t .used) piece) .1)
 
@@ -21,15 +21,14 @@ andTheRest piece t = (onBytes (t .script) (drop (t .used) piece) .0, t .output +
 pub record EveryPiece : Type 0 where
   -- nothing is lost, and nothing is answered twice
   pub nothing-lost : (space : ℕ) (x : Script) (piece : List ℕ) → andTheRest piece (onPiece space x piece) ≡ onBytes x piece
-  -- what is printed has space, and is of the piece
   pub has-space : (space : ℕ) (x : Script) (piece : List ℕ) → length (onPiece space x piece .output) ≤ space
   pub within : (space : ℕ) (x : Script) (piece : List ℕ) → onPiece space x piece .used ≤ length piece
-  -- with room for one line some of the piece is taken
+  -- with room for one line, some of the piece is taken
   pub goes-on : (space : ℕ) (x : Script) (piece : List ℕ) → room ≤ space → 1 ≤ length piece → 1 ≤ onPiece space x piece .used
-  -- with room for a line for each byte all of it is taken
-  pub used-up : (space : ℕ) (x : Script) (piece : List ℕ) → length piece * room ≤ space → onPiece space x piece .used ≡ length piece
-  -- as the program calls
-  pub all-read : (x : Script) (piece : List ℕ) → length piece ≤ pieceLength → onPiece outputLength x piece .used ≡ length piece
+  -- with room for a line for each byte, all of it is taken
+  pub used-up : (space : ℕ) (x : Script) (piece : List ℕ) → length piece * room ≤ space → onPiece space x piece ≡ allTaken x piece
+  -- so it is in the program
+  pub all-read : (x : Script) (piece : List ℕ) → length piece ≤ pieceLength → onPiece outputLength x piece ≡ allTaken x piece
 
 -- ---- a whole input
 
@@ -38,22 +37,22 @@ pub record Handed : Type 0 where
   pub piece : List ℕ
   pub space : ℕ
 
--- after some calls: the script, what the last one has left of its piece, and all that was printed
+-- after some calls: the script, what the last call has left of its piece, and all that was printed
 pub record Progress : Type 0 where
   pub script : Script
   pub left : List ℕ
   pub output : List ℕ
 
--- what is left stands before the next piece
-abbrev pub toTake : Progress → Handed → List ℕ
-toTake p h = p .left ++ h .piece
-
-abbrev pub after : Progress → (toTake : List ℕ) → Taken → Progress
-after p piece t = record { script = t .script; left = drop (t .used) piece; output = p .output ++ t .output }
+-- what is left is handed in again, before the next piece
+abbrev pub nextCall : Progress → Handed → Progress
+nextCall p h =
+    let piece = p .left ++ h .piece in
+    let t = onPiece (h .space) (p .script) piece in
+    record { script = t .script; left = drop (t .used) piece; output = p .output ++ t .output }
 
 unfoldable pub afterCalls : Progress → List Handed → Progress
 afterCalls p [] = p
-afterCalls p (h ∷ handed) = afterCalls (after p (toTake p h) (onPiece (h .space) (p .script) (toTake p h))) handed
+afterCalls p (h ∷ handed) = afterCalls (nextCall p h) handed
 
 abbrev pub fromStart : List Handed → Progress
 fromStart = afterCalls (record { script = started; left = []; output = [] })
@@ -67,13 +66,13 @@ input (h ∷ handed) = h .piece ++ input handed
 abbrev pub machinesOutput : List ℕ → List ℕ
 machinesOutput bytes = scriptOutput machinesVariant fresh machinesTransition none (linesOf bytes)
 
--- each piece has room for a line for each of its bytes
+-- each piece comes with room for a line for each of its bytes
 abbrev pub Roomy : List Handed → Type 0
 Roomy [] = Unit {0}
 Roomy (h ∷ handed) = (length (h .piece) * room ≤ h .space) × Roomy handed
 
--- for every input, cut into pieces in any way, and any space for each
+-- for every input, cut into pieces in any way, each handed in with any space
 pub record EveryScript : Type 0 where
-  -- where nothing is left, all that was printed, and the end of the input
+  -- where nothing is left, the calls and the end of the input print the output of the machines
   pub same-output : (handed : List Handed) → fromStart handed .left ≡ [] → fromStart handed .output ++ atEnd (fromStart handed .script) ≡ machinesOutput (input handed)
   pub nothing-left : (handed : List Handed) → Roomy handed → fromStart handed .left ≡ []

@@ -73,6 +73,10 @@ onPiece space x [] = nothingTaken x
 onPiece space x (b ∷ piece) = pick (leb (length (onByte x b .1)) space)
     (takenAfter 1 (onByte x b .1) (onPiece (space - length (onByte x b .1)) (onByte x b .0) piece)) (nothingTaken x)
 
+-- all of a piece
+abbrev pub allTaken : Script → (piece : List ℕ) → Taken
+allTaken x piece = record { script = onBytes x piece .0; used = length piece; output = onBytes x piece .1 }
+
 -- what the code gives back
 abbrev pub answeredAs : Taken → Answered
 answeredAs t = record { script = t .script; used = t .used; count = length (t .output) }

@@ -10,6 +10,7 @@ ghost use Rattle.script.specs.inner.Steps.{notEnded, Steps};
 use crate::splitting::keep;
 use crate::splitting::line_end;
 use script_answers::Printed;
+use script_answers::ROOM;
 use script_command::LINE_LENGTH;
 use script_interpreter::LineResult;
 use script_interpreter::Session;
@@ -18,6 +19,12 @@ mod splitting;
 
 // One byte more than a line may have: it tells that a line is too long.
 pub const PENDING: usize = LINE_LENGTH + 1;
+
+// How many bytes of the input a caller may read at a time, and an output that has room for a line
+// for each of them: so all of the piece is answered in one call.
+pub const PIECE: usize = 4096;
+
+pub const OUTPUT: usize = PIECE * ROOM;
 
 // What has come of a line that has begun.
 pub struct Pending {
