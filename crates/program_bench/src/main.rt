@@ -32,7 +32,10 @@ fn write(out: &[u8], count: usize) -> bool
     if io::write_all(STDOUT_FILENO, &out[..count]) {
         return true;
     }
-    io::write_all(STDERR_FILENO, b"katan-bench: standard output could not be written\n");
+    io::write_all(
+        STDERR_FILENO,
+        b"katan-bench: standard output could not be written\n",
+    );
     false
 }
 
@@ -51,7 +54,10 @@ fn turn(script: Script, out: &mut [u8]) -> State
     let mut piece: [u8; PIECE] = io::buffer();
     let got = libc::read(STDIN_FILENO, &mut piece);
     if got < 0 {
-        io::write_all(STDERR_FILENO, b"katan-bench: standard input could not be read\n");
+        io::write_all(
+            STDERR_FILENO,
+            b"katan-bench: standard input could not be read\n",
+        );
         return State {
             script,
             is_input_open: false,

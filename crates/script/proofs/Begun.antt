@@ -11,7 +11,8 @@ use lib.ListN.{length, take, drop, getD, set, drop-of-length-le}
 use lib.Seq.{drop-cons, take-all}
 use borrow.Author.Tests.{lt-ltb, le-ltb, eq-eqb, ne-eqb, leb-true, leb-false}
 use Rattle.script_answers.specs.Printed.{lineFeed}
-use Rattle.script.specs.Pieces.{pendingRoom, kept, onLineFeed, onByte}
+use Rattle.script_interpreter.specs.Session.{sessionLine}
+use Rattle.script.specs.Pieces.{pendingRoom, kept, lineIn, onLineFeed, onByte, atEnd}
 use Rattle.script.specs.inner.Kept.{keptAll, lineEnd}
 use Rattle.script.specs.declared.Pending.{Pending}
 use Rattle.script.specs.declared.Script.{Script}
@@ -76,6 +77,16 @@ byte-feed x b e = rw e
 pub byte-more : (x : Script) (b : ℕ) → eqb b lineFeed ≡ false → onByte x b ≡ (holding x (kept (x .pending) b), [])
 unfolding onByte
 byte-more x b e = rw e
+
+-- ---- the end of the input
+
+pub at-end-none : (x : Script) → x .pending .length ≡ 0 → atEnd x ≡ []
+unfolding atEnd
+at-end-none x e = rw (eq-eqb (x .pending .length) 0 e)
+
+pub at-end-some : (x : Script) → (x .pending .length ≡ 0 → ⊥) → atEnd x ≡ sessionLine (x .session) (lineIn (x .pending)) .1
+unfolding atEnd
+at-end-some x e = rw (ne-eqb (x .pending .length) 0 e)
 
 -- a line that has begun shows no more bytes than there is room for
 pub shown-all : (bytes : List ℕ) (n m : ℕ) → length bytes ≡ pendingRoom → m ≡ min pendingRoom n → take m bytes ≡ take n bytes

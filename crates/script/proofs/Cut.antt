@@ -8,7 +8,7 @@ use native.Mathlib.Omega.{arith}
 use lib.Dec.{eqb, leb, ltb}
 use lib.ListN.{length, take, drop, set, length-append, length-set}
 use lib.Seq.{take-all, drop-length, length-take-le, take-suc-set, take-append-le}
-use borrow.Author.Tests.{leb-true, leb-false, ltb-true, ltb-false, eqb-true, eq-eqb, ne-eqb}
+use borrow.Author.Tests.{leb-true, leb-false, ltb-true, ltb-false, eqb-true}
 use Rattle.katan.specs.Bit.{pick}
 use Rattle.script_answers.specs.Printed.{lineFeed, room}
 use Rattle.script_command.specs.Answer.{commandAnswer}
@@ -21,7 +21,7 @@ use Rattle.script_interpreter.specs.declared.Session.{Session}
 use Rattle.script.specs.declared.Pending.{Pending}
 use Rattle.script.specs.declared.Script.{Script}
 use Rattle.script_interpreter.proofs.Taken.{long-broken}
-use Rattle.script.proofs.Begun.{holding, byte-feed, byte-more}
+use Rattle.script.proofs.Begun.{holding, byte-feed, byte-more, at-end-none, at-end-some}
 use Rattle.script.proofs.Taken.{nothing-lost, used-up}
 
 abbrev output : Session → List (List ℕ) → List ℕ
@@ -107,19 +107,11 @@ module _ (x : Script) (line : List ℕ) (h : Begun (x .pending) line) where
   begun-line : sessionLine (x .session) (lineIn (x .pending)) ≡ sessionLine (x .session) line
   begun-line = ap (sessionLine (x .session)) (h .text) ∙ same-line (x .session) line
 
-end-none : (x : Script) → x .pending .length ≡ 0 → atEnd x ≡ []
-unfolding atEnd
-end-none x e = rw (eq-eqb (x .pending .length) 0 e)
-
-end-some : (x : Script) → (x .pending .length ≡ 0 → ⊥) → atEnd x ≡ sessionLine (x .session) (lineIn (x .pending)) .1
-unfolding atEnd
-end-some x e = rw (ne-eqb (x .pending .length) 0 e)
-
 at-end : (x : Script) (line : List ℕ) → NoFeed line → Begun (x .pending) line → atEnd x ≡ output (x .session) (linesOf (line ++ []))
 unfolding linesOf scriptOutput
-at-end x [] n h = end-none x (omega (arith, h .size))
+at-end x [] n h = at-end-none x (omega (arith, h .size))
 at-end x (b ∷ line) n h =
-    end-some x (λ z. omega (arith, h .size))
+    at-end-some x (λ z. omega (arith, h .size))
     ∙ ap (λ (t : Session × List ℕ). t .1) (begun-line x (b ∷ line) h)
     ∙ sym (append-nil (sessionLine (x .session) (b ∷ line) .1))
     ∙ ap (output (x .session)) (sym (ap linesOf (append-nil (b ∷ line)) ∙ lines-last b line n))

@@ -53,9 +53,9 @@ nothing-lost space x (b ∷ piece) =
     let rest = onBytes (t .script) (drop (t .used) piece) in
     by-byte space x b piece (λ (u : Taken). andTheRest (b ∷ piece) u ≡ onBytes x (b ∷ piece))
     (λ h.
-      ap (λ (n : ℕ). (onBytes (t .script) (drop n (b ∷ piece)) .0, (o ++ t .output) ++ onBytes (t .script) (drop n (b ∷ piece)) .1)) next
-      ∙ ap (λ (l : List ℕ). (rest .0, l)) (append-assoc o (t .output) (rest .1))
-      ∙ ap (λ (u : Script × List ℕ). (u .0, o ++ u .1)) (nothing-lost (space - length o) (onByte x b .0) piece))
+    ap (λ (n : ℕ). (onBytes (t .script) (drop n (b ∷ piece)) .0, (o ++ t .output) ++ onBytes (t .script) (drop n (b ∷ piece)) .1)) next
+    ∙ ap (λ (l : List ℕ). (rest .0, l)) (append-assoc o (t .output) (rest .1))
+    ∙ ap (λ (u : Script × List ℕ). (u .0, o ++ u .1)) (nothing-lost (space - length o) (onByte x b .0) piece))
     refl
 
 pub has-space : (space : ℕ) (x : Script) (piece : List ℕ) → length (onPiece space x piece .output) ≤ space
@@ -91,9 +91,9 @@ used-up space x piece h =
     let none : drop (t .used) piece ≡ [] = ap (λ (n : ℕ). drop n piece) u ∙ drop-length piece in
     let make : ℕ → Script × List ℕ → Taken = λ (n : ℕ) (v : Script × List ℕ). record { script = v .0; used = n; output = v .1 } in
     let left : (t .script, t .output) ≡ onBytes x piece =
-        ap (λ (l : List ℕ). (t .script, l)) (sym (append-nil (t .output)))
-        ∙ ap (λ (l : List ℕ). (onBytes (t .script) l .0, t .output ++ onBytes (t .script) l .1)) (sym none)
-        ∙ nothing-lost space x piece
+    ap (λ (l : List ℕ). (t .script, l)) (sym (append-nil (t .output)))
+    ∙ ap (λ (l : List ℕ). (onBytes (t .script) l .0, t .output ++ onBytes (t .script) l .1)) (sym none)
+    ∙ nothing-lost space x piece
     in
     ap₂ make u left
 

@@ -135,15 +135,15 @@ module _ (space : ℕ) (x : Script) (piece : List ℕ) (n : ℕ) (p : Pending) (
         let s = lineStep (line space x piece) (lineEnd piece) (printed (line space x piece)) in
         let fits : length o ≤ space = omega (arith, size) in
         let canonical : Steps space x piece s =
-            record {
-              whole =
-                  with-line space x piece (omega arith) fits
-                  ∙ ap (λ (l : List ℕ). takenAfter (lineEnd piece + 1) l (onPiece (space - length o) (s .script) (drop (lineEnd piece + 1) piece))) (sym (take-append-seam o _));
-              within = omega arith;
-              some = omega arith;
-              sized = line-fits (x .session) (lineIn (line space x piece));
-              fits = fits;
-            } in
+        record {
+          whole =
+              with-line space x piece (omega arith) fits
+              ∙ ap (λ (l : List ℕ). takenAfter (lineEnd piece + 1) l (onPiece (space - length o) (s .script) (drop (lineEnd piece + 1) piece))) (sym (take-append-seam o _));
+          within = omega arith;
+          some = omega arith;
+          sized = line-fits (x .session) (lineIn (line space x piece));
+          fits = fits;
+        } in
         subst⁻¹ (Steps space x piece) (ap₂ (λ (q : Pending) (m : ℕ). lineStep q m t) same-line e ∙ ap (lineStep (line space x piece) (lineEnd piece)) result) canonical
 
 -- ---- the loop over a piece

@@ -70,8 +70,9 @@ takenAfter n output t = record { script = t .script; used = n + t .used; output 
 -- bytes are taken one after the other, up to the first for whose output the space that is left is too small
 unfoldable pub onPiece : (space : ℕ) → Script → (piece : List ℕ) → Taken
 onPiece space x [] = nothingTaken x
-onPiece space x (b ∷ piece) = pick (leb (length (onByte x b .1)) space)
-    (takenAfter 1 (onByte x b .1) (onPiece (space - length (onByte x b .1)) (onByte x b .0) piece)) (nothingTaken x)
+onPiece space x (b ∷ piece) =
+    let t = onByte x b in
+    pick (leb (length (t .1)) space) (takenAfter 1 (t .1) (onPiece (space - length (t .1)) (t .0) piece)) (nothingTaken x)
 
 -- all of a piece
 abbrev pub allTaken : Script → (piece : List ℕ) → Taken

@@ -17,7 +17,6 @@ use Rattle.script_answers.specs.inner.Pieces.{textOf, valuesTaken, shape
 use Rattle.script_answers.specs.declared.form.Shape.{Shape}
 use Rattle.script_answers.specs.declared.form.Shape.the-variants.{Letter, Digits}
 
-
 -- ---- digits
 
 set-front : (l r : List ℕ) (m x : ℕ) → m < length l → set (take (suc m) l ++ r) m x ≡ take m l ++ (x ∷ r)

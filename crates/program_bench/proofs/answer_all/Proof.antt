@@ -21,9 +21,8 @@ returns c =
     let t = c .before .before .answer in
     let taken = onPiece (length out) (s .args .script) (s .args .piece .now) in
     let all : taken ≡ allTaken (s .args .script) (s .args .piece .now) =
-        ap (λ (n : ℕ). onPiece n (s .args .script) (s .args .piece .now)) (sym (s .pre .1)) ∙ every-piece .all-read (s .args .script) (s .args .piece .now) (s .pre .0)
-    in
-    (
+    ap (λ (n : ℕ). onPiece n (s .args .script) (s .args .piece .now)) (sym (s .pre .1)) ∙ every-piece .all-read (s .args .script) (s .args .piece .now) (s .pre .0)
+    in (
       t .ensures .0 ∙ ap answeredAs all,
       t .ensures .1 ∙ ap (λ (u : Taken). writtenTo out (u .output)) all,
       subst⁻¹ (λ (r : Answered). r .count ≤ length out) (t .ensures .0) (every-piece .has-space (length out) (s .args .script) (s .args .piece .now)),

@@ -41,13 +41,12 @@ loop-again c =
     let a = c .before .before .before .args in
     let l = c .before .loop in
     let len : length (a .printed .bytes) ≡ room = search needs in
-    let turn : l .i < a .printed .length = c .loop-test .taken in
-    (
+    let turn : l .i < a .printed .length = c .loop-test .taken in (
       omega arith,
       simp length-set (l .inv .1),
       ap (λ (z : List ℕ). set z (a .at + l .i) (getD (a .printed .bytes) (l .i) 0)) (l .inv .2)
-      ∙ paste-suc (a .out .now) (a .at) (a .printed .bytes) (l .i) 0 (omega arith) (omega arith)
-      ∙ ap (paste (a .out .now) (a .at) (a .printed .bytes)) (sym (add-one (l .i))),
+          ∙ paste-suc (a .out .now) (a .at) (a .printed .bytes) (l .i) 0 (omega arith) (omega arith)
+          ∙ ap (paste (a .out .now) (a .at) (a .printed .bytes)) (sym (add-one (l .i))),
     )
 
 same-length : tie.Need-same-length Inv-loop μ-loop
