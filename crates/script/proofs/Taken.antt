@@ -8,11 +8,11 @@ use native.Mathlib.Omega.{arith}
 use lib.Dec.{leb}
 use lib.ListN.{length, drop, length-append}
 use lib.Seq.{drop-length}
-use borrow.Author.Tests.{leb-true, leb-false, le-leb, lt-leb}
+use borrow.Author.Tests.{leb-true, le-leb, lt-leb}
 use Rattle.katan.specs.Bit.{pick}
 use Rattle.script_answers.specs.Printed.{room}
-use Rattle.script.specs.Pieces.{onByte, onBytes, Taken, nothingTaken, takenAfter, onPiece, allTaken, pieceLength, outputLength}
-use Rattle.script.specs.Claim.{andTheRest, EveryPiece}
+use Rattle.script.specs.Pieces.{onByte, onBytes, Taken, nothingTaken, takenAfter, onPiece, allTaken, outputLength}
+use Rattle.script.specs.Claim.{andTheRest, EveryPiece, EveryRead}
 use Rattle.script.specs.declared.Script.{Script}
 use Rattle.script.proofs.Room.{byte-fits}
 
@@ -58,7 +58,7 @@ nothing-lost space x (b ∷ piece) =
     ∙ ap (λ (u : Script × List ℕ). (u .0, o ++ u .1)) (nothing-lost (space - length o) (onByte x b .0) piece))
     refl
 
-pub has-space : (space : ℕ) (x : Script) (piece : List ℕ) → length (onPiece space x piece .output) ≤ space
+has-space : (space : ℕ) (x : Script) (piece : List ℕ) → length (onPiece space x piece .output) ≤ space
 unfolding onPiece
 has-space space x [] = omega arith
 has-space space x (b ∷ piece) =
@@ -97,9 +97,17 @@ used-up space x piece h =
     in
     ap₂ make u left
 
-pub all-read : (x : Script) (piece : List ℕ) → length piece ≤ pieceLength → onPiece outputLength x piece ≡ allTaken x piece
-all-read x piece h = used-up outputLength x piece (omega arith)
-
 -- THEOREM: for every script, piece and space a call loses nothing
 pub every-piece : EveryPiece
-every-piece = record { nothing-lost = nothing-lost; has-space = has-space; within = within; goes-on = goes-on; used-up = used-up; all-read = all-read }
+every-piece space x piece =
+    record {
+      same = nothing-lost space x piece;
+      has-space = has-space space x piece;
+      within = within space x piece;
+      goes-on = goes-on space x piece;
+      used-up = used-up space x piece;
+    }
+
+-- THEOREM: all that the program reads at a time is taken in one call
+pub every-read : EveryRead
+every-read x piece h = used-up outputLength x piece (omega arith)

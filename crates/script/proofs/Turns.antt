@@ -12,10 +12,10 @@ use lib.ListN.{length, take, drop, length-drop, drop-of-length-le, take-append-d
 use lib.Seq.{take-append-seam, length-take-le, take-all, drop-drop, paste, take-paste, drop-paste, length-paste}
 use borrow.Author.Tests.{eqb-true}
 use Rattle.katan.specs.Bit.{pick}
-use Rattle.script_answers.specs.Printed.{lineFeed, room, printedAs}
+use Rattle.script_answers.specs.Printed.{lineFeed, room}
 use Rattle.script_interpreter.specs.Session.{sessionLine, resultOf}
 use Rattle.script_interpreter.specs.declared.LineResult.{LineResult}
-use Rattle.script.specs.Pieces.{kept, emptied, lineIn, onLineFeed, onByte, Taken, nothingTaken, takenAfter, onPiece, answeredAs, writtenTo}
+use Rattle.script.specs.Pieces.{kept, emptied, lineIn, onLineFeed, Taken, nothingTaken, takenAfter, onPiece, answeredAs, writtenTo}
 use Rattle.script.specs.inner.Kept.{keptAll, lineEnd}
 use Rattle.script.specs.inner.Steps.{notEnded, lineOf, stepTaken, Steps}
 use Rattle.script.specs.declared.Pending.{Pending}

@@ -17,18 +17,22 @@ use Rattle.script.specs.declared.Script.{Script}
 abbrev pub andTheRest : (piece : List ℕ) → Taken → Script × List ℕ
 andTheRest piece t = (onBytes (t .script) (drop (t .used) piece) .0, t .output ++ onBytes (t .script) (drop (t .used) piece) .1)
 
--- for every script, piece and space
-pub record EveryPiece : Type 0 where
+pub record LosesNothing (space : ℕ) (x : Script) (piece : List ℕ) : Type 0 where
   -- nothing is lost, and nothing is answered twice
-  pub nothing-lost : (space : ℕ) (x : Script) (piece : List ℕ) → andTheRest piece (onPiece space x piece) ≡ onBytes x piece
-  pub has-space : (space : ℕ) (x : Script) (piece : List ℕ) → length (onPiece space x piece .output) ≤ space
-  pub within : (space : ℕ) (x : Script) (piece : List ℕ) → onPiece space x piece .used ≤ length piece
+  pub same : andTheRest piece (onPiece space x piece) ≡ onBytes x piece
+  pub has-space : length (onPiece space x piece .output) ≤ space
+  pub within : onPiece space x piece .used ≤ length piece
   -- with room for one line, some of the piece is taken
-  pub goes-on : (space : ℕ) (x : Script) (piece : List ℕ) → room ≤ space → 1 ≤ length piece → 1 ≤ onPiece space x piece .used
+  pub goes-on : room ≤ space → 1 ≤ length piece → 1 ≤ onPiece space x piece .used
   -- with room for a line for each byte, all of it is taken
-  pub used-up : (space : ℕ) (x : Script) (piece : List ℕ) → length piece * room ≤ space → onPiece space x piece ≡ allTaken x piece
-  -- so it is in the program
-  pub all-read : (x : Script) (piece : List ℕ) → length piece ≤ pieceLength → onPiece outputLength x piece ≡ allTaken x piece
+  pub used-up : length piece * room ≤ space → onPiece space x piece ≡ allTaken x piece
+
+abbrev pub EveryPiece : Type 0
+EveryPiece = (space : ℕ) (x : Script) (piece : List ℕ) → LosesNothing space x piece
+
+-- the program's output has room for all that it reads at a time
+abbrev pub EveryRead : Type 0
+EveryRead = (x : Script) (piece : List ℕ) → length piece ≤ pieceLength → onPiece outputLength x piece ≡ allTaken x piece
 
 -- ---- a whole input
 
