@@ -59,7 +59,7 @@ extern "C" {
 #define KATAN_FIELD_NOT_ZERO 4  /* an unused field or a zero byte of the record is not zero (katan_arrive) */
 #define KATAN_BAD_LANE 5        /* the lane is over 63 (katan_arrive, katan_read) */
 #define KATAN_BAD_POSITION 6    /* a load position is over 254, or a move count is 0 or over 254 (katan_arrive) */
-#define KATAN_BAD_BLOCK 7       /* a block is 2^n or more, which none of 64 bits is
+#define KATAN_BAD_BLOCK 7       /* a block is 2^n or more, never so where n is 64
                                    (katan_encrypt, katan_decrypt, both for many blocks, katan_arrive) */
 #define KATAN_EMPTY_MASK 8      /* the mask of a move or clear is 0 (katan_arrive) */
 #define KATAN_OUT_OF_TURN 9     /* the number is neither last + 1 nor a nonzero last; numbers do not wrap, and after
@@ -129,7 +129,7 @@ extern "C" {
  *         bytes 2 to 11          its key: key bit 8 j + b is bit b of byte j of the key
  *         bytes 12 to 19         its registers, below 2^n
  *
- * A bench may hold any bytes: katan_arrive and katan_read check all of it. A lane with another state, or a loaded one
+ * A bench may hold any bytes: katan_arrive and katan_read check every lane of it. A lane with another state, or a loaded one
  * with a position over 254 or a register bit set at n or above, is damaged, and both return KATAN_BAD_VARIANT. Of an
  * empty lane only the state is looked at and written: the other bytes are kept, and the driver may overwrite them. SO A
  * LANE THAT IS CLEARED KEEPS ITS OLD KEY in memory until it is loaded again or the driver wipes it, and two benches

@@ -33,7 +33,7 @@ use Rattle.bench.specs.Calls.{Call, arrival, reading, done, again, Answe
 use Rattle.bench.specs.Checks.{View, benchCheck, turnCheck, repeatCheck, arrivalChecks, Turn, counts, repeats, turnOf, decision}
 use Rattle.bench.specs.Model.{Model, freshModel, machineView, modelView, afterCounted, arrivalAs, modelTransition, madeBy}
 use Rattle.bench.specs.Claim.{benchAnswers, modelAnswers, modelAfter, countedRecords, laneAfter}
-use Rattle.bench.specs.Laws.{SoundRecord, FirstFault, andArrival, CountsNext, AnsweredAgain, shows, loadCall, moveCall, Laws}
+use Rattle.bench.specs.Laws.{SoundRecord, FirstFault, andArrival, CountsNext, AnsweredAgain, laneShows, loadCall, moveCall, Laws}
 use Rattle.bench.proofs.Calls.{state-more, answers-more}
 use Rattle.bench.proofs.Turns.{counts-next}
 use Rattle.bench.proofs.Lists.{every-list}
@@ -242,7 +242,7 @@ module _ (v : ℕ) (least : 1 ≤ v) (most : v ≤ 6) where
 
   -- ---- a lane that is loaded, and moves
 
-  -- what a lane shows, from the records that counted
+  -- what a lane laneShows, from the records that counted
   shown-by : (calls : List Call) (i : ℕ) (ss : List (List ℕ)) → i < laneCount → countedRecords v calls ≡ ss → laneAfter v calls i ≡ machineView v (madeBy i ss)
   shown-by calls i ss lt e =
       let now = every-list v least most calls in
@@ -285,9 +285,9 @@ module _ (v : ℕ) (least : 1 ≤ v) (most : v ≤ 6) where
     unfolding madeBy
     load-made = ap (λ (t : Record). machineStep t i empty) load-back ∙ load-step i q key x empty
 
-    by-load : laneAfter v loaded-list i ≡ shows q x
+    by-load : laneAfter v loaded-list i ≡ laneShows q x
     unfolding machineView
-    by-load = shown-by loaded-list i (encode theLoad ∷ []) lane load-counts ∙ ap (machineView v) load-made ∙ ap (shows q) (at-load v key q x)
+    by-load = shown-by loaded-list i (encode theLoad ∷ []) lane load-counts ∙ ap (machineView v) load-made ∙ ap (laneShows q) (at-load v key q x)
 
     -- a forward or a back
     module _ (k : Kind) (c : ℕ) where
@@ -307,7 +307,7 @@ module _ (v : ℕ) (least : 1 ≤ v) (most : v ≤ 6) where
           })
 
       by-move : (p : ℕ) → NoFault (fieldChecks v theMove) → machineStep theMove i (loaded key x q q) ≡ loaded key x q p
-          → laneAfter v (loadCall i q key x ∷ moveCall k i c ∷ []) i ≡ shows p (registersAt v key q x p)
+          → laneAfter v (loadCall i q key x ∷ moveCall k i c ∷ []) i ≡ laneShows p (registersAt v key q x p)
       unfolding madeBy machineView
       by-move p free step =
           let n : decode (encode theMove) .number ≡ length (countedRecords v loaded-list) + 1 = rw load-counts (ap (λ (t : Record). t .number) move-back) in
@@ -326,11 +326,11 @@ module _ (v : ℕ) (least : 1 ≤ v) (most : v ≤ 6) where
       names-some : eqb (2 ^ i) 0 ≡ false
       names-some = ne-eqb (2 ^ i) 0 (λ e. omega (arith, pow-pos i))
 
-      by-forward : laneAfter v (loadCall i q key x ∷ moveCall forward i c ∷ []) i ≡ shows (min rounds (q + c)) (registersAt v key q x (min rounds (q + c)))
+      by-forward : laneAfter v (loadCall i q key x ∷ moveCall forward i c ∷ []) i ≡ laneShows (min rounds (q + c)) (registersAt v key q x (min rounds (q + c)))
       unfolding kindOf unknown unused wrongCount noneNamed
       by-forward = by-move forward c (min rounds (q + c)) (search (count-in, no-block, names-some)) (forward-step i q key x c)
 
-      by-back : laneAfter v (loadCall i q key x ∷ moveCall back i c ∷ []) i ≡ shows (q - c) (registersAt v key q x (q - c))
+      by-back : laneAfter v (loadCall i q key x ∷ moveCall back i c ∷ []) i ≡ laneShows (q - c) (registersAt v key q x (q - c))
       unfolding kindOf unknown unused wrongCount noneNamed
       by-back = by-move back c (q - c) (search (count-in, no-block, names-some)) (back-step i q key x c)
 

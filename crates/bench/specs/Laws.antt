@@ -1,5 +1,5 @@
--- Laws of every list, beside the claim of demand 3: a bench that refuses a record in its turn, invents a refusal, takes a repeat for a new record or has
--- a lane that never moves breaks one of them.
+-- Laws of every list, beside the claim of demand 3: a bench that refuses a sound record in its turn, gives a refusal that no check finds, takes a repeat
+-- for a new record or has a lane that never moves breaks one of them.
 -- Assumes nothing.
 use Prim.Native.Nat.{ℕ, _+_, _-_, _^_, _<_, _≤_, min}
 use mathlib.Core.Path.{_≡_}
@@ -55,8 +55,8 @@ module _ (v : ℕ) (calls : List Call) (s : List ℕ) where
     pub none-moves : (i : ℕ) → i < laneCount → laneAfter v (andArrival calls s) i ≡ laneAfter v calls i
 
 -- a loaded lane's position and registers
-abbrev pub shows : (position registers : ℕ) → LaneView
-shows p x = loadedLane (record { position = record { 0 = p }; registers = x })
+abbrev pub laneShows : (position registers : ℕ) → LaneView
+laneShows p x = loadedLane (record { position = record { 0 = p }; registers = x })
 
 -- record 1 loads a lane
 abbrev pub loadCall : (lane position key block : ℕ) → Call
@@ -68,11 +68,11 @@ moveCall k i c = arrival (encode (moveRecord (kindByte k) 2 (2 ^ i) c))
 
 -- lane i after block x was loaded at position q, and after a move from there
 pub record Reached (v i q key x : ℕ) : Type 0 where
-  pub by-load : laneAfter v (loadCall i q key x ∷ []) i ≡ shows q x
+  pub by-load : laneAfter v (loadCall i q key x ∷ []) i ≡ laneShows q x
   pub by-forward : (c : ℕ) → 1 ≤ c → c ≤ rounds
-      → laneAfter v (loadCall i q key x ∷ moveCall forward i c ∷ []) i ≡ shows (min rounds (q + c)) (registersAt v key q x (min rounds (q + c)))
+      → laneAfter v (loadCall i q key x ∷ moveCall forward i c ∷ []) i ≡ laneShows (min rounds (q + c)) (registersAt v key q x (min rounds (q + c)))
   pub by-back : (c : ℕ) → 1 ≤ c → c ≤ rounds
-      → laneAfter v (loadCall i q key x ∷ moveCall back i c ∷ []) i ≡ shows (q - c) (registersAt v key q x (q - c))
+      → laneAfter v (loadCall i q key x ∷ moveCall back i c ∷ []) i ≡ laneShows (q - c) (registersAt v key q x (q - c))
 
 -- the laws of a bench of variant v
 pub record LawsOf (v : ℕ) : Type 0 where

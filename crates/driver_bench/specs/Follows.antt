@@ -1,5 +1,6 @@
--- A driver's calls one by one, each on any memory of the right lengths: opening gives memory that says the fresh bench and link; an arrival and a read
--- find the state that their memory says, answer as the call of a list does (bench's `benchTransition`), and leave memory that says the state that it leaves.
+-- A driver's calls one by one, on memory of the right lengths: opening gives memory that says the fresh bench and link, whatever it held; an arrival, on
+-- memory of bytes, and a read find the state that the memory says, answer as the call of a list does (bench's `benchTransition`), and leave memory that
+-- says the state that it leaves.
 -- Assumes nothing.
 use Prim.Native.Nat.{ℕ, _≤_}
 use mathlib.Core.Path.{_≡_}

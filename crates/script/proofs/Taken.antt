@@ -12,7 +12,7 @@ use borrow.Author.Tests.{leb-true, le-leb, lt-leb}
 use Rattle.katan.specs.Bit.{pick}
 use Rattle.script_answers.specs.Printed.{room}
 use Rattle.script.specs.Pieces.{onByte, onBytes, Taken, nothingTaken, takenAfter, onPiece, allTaken, outputLength}
-use Rattle.script.specs.Claim.{andTheRest, EveryPiece, EveryRead}
+use Rattle.script.specs.Claim.{andTheRest, EveryPiece, EveryPieceRead}
 use Rattle.script.specs.declared.Script.{Script}
 use Rattle.script.proofs.Room.{byte-fits}
 
@@ -109,5 +109,5 @@ every-piece space x piece =
     }
 
 -- THEOREM: all that the program reads at a time is taken in one call
-pub every-read : EveryRead
-every-read x piece h = used-up outputLength x piece (omega arith)
+pub every-piece-read : EveryPieceRead
+every-piece-read x piece h = used-up outputLength x piece (omega arith)

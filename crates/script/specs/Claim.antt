@@ -31,8 +31,8 @@ abbrev pub EveryPiece : Type 0
 EveryPiece = (space : ℕ) (x : Script) (piece : List ℕ) → LosesNothing space x piece
 
 -- the program's output has room for all that it reads at a time
-abbrev pub EveryRead : Type 0
-EveryRead = (x : Script) (piece : List ℕ) → length piece ≤ pieceLength → onPiece outputLength x piece ≡ allTaken x piece
+abbrev pub EveryPieceRead : Type 0
+EveryPieceRead = (x : Script) (piece : List ℕ) → length piece ≤ pieceLength → onPiece outputLength x piece ≡ allTaken x piece
 
 -- ---- a whole input
 

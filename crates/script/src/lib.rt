@@ -20,7 +20,7 @@ mod splitting;
 // One byte more than a line may have: it tells that a line is too long.
 pub const PENDING: usize = LINE_LENGTH + 1;
 
-// How many bytes of the input a caller may read at a time, and an output that has room for a line
+// How many bytes of the input the program reads at a time, and an output that has room for a line
 // for each of them: so all of the piece is answered in one call.
 pub const PIECE: usize = 4096;
 
@@ -156,7 +156,7 @@ fn put(printed: Printed, out: &mut [u8], at: usize)
 
 // Takes a piece of the input, and prints the answers to the lines that end in it at the start of
 // the output. It stops before a line feed whose answer has no space left: the caller hands in what
-// was not used once more.
+// was not used once more. An output of `script_answers::ROOM` bytes has space for any line.
 pub fn answer(script: Script, piece: &[u8], out: &mut [u8]) -> Answered
     ensures { λ r. ⌜ (r ≡ answeredAs (onPiece (length (now (out .entry))) script (now (piece .entry)))) × (now (out .exit) ≡ writtenTo (now (out .entry)) (onPiece (length (now (out .entry))) script (now (piece .entry)) .output)) ⌝ }
 {

@@ -4,7 +4,7 @@ use mathlib.Core.Path.{_≡_, sym, ap, _∙_, subst⁻¹}
 use lib.ListN.{length}
 use Rattle.script.specs.Pieces.{Taken, onPiece, allTaken, answeredAs, writtenTo}
 use Rattle.script.specs.declared.Answered.{Answered}
-use Rattle.script.proofs.Taken.{every-piece, every-read}
+use Rattle.script.proofs.Taken.{every-piece, every-piece-read}
 use Rattle.program_bench.proofs.answer_all.Statement.{statement}
 use Rattle.program_bench.proofs.answer_all.Tie as tie
 
@@ -21,7 +21,7 @@ returns c =
     let t = c .before .before .answer in
     let taken = onPiece (length out) (s .args .script) (s .args .piece .now) in
     let all : taken ≡ allTaken (s .args .script) (s .args .piece .now) =
-    ap (λ (n : ℕ). onPiece n (s .args .script) (s .args .piece .now)) (sym (s .pre .1)) ∙ every-read (s .args .script) (s .args .piece .now) (s .pre .0)
+    ap (λ (n : ℕ). onPiece n (s .args .script) (s .args .piece .now)) (sym (s .pre .1)) ∙ every-piece-read (s .args .script) (s .args .piece .now) (s .pre .0)
     in (
       t .ensures .0 ∙ ap answeredAs all,
       t .ensures .1 ∙ ap (λ (u : Taken). writtenTo out (u .output)) all,
