@@ -260,7 +260,7 @@ pub const COUNTERS: [u8; katan::ROUND_COUNT] = [
 
 // The KTANTAN key bit numbers, ka's and kb's of each round.
 pub const KEY_BIT_NUMBERS: [u8; katan::ROUND_KEYS] = [
-    63,
+    63, // ka of round 0
     31,
     31,
     63,
@@ -767,5 +767,5 @@ pub const KEY_BIT_NUMBERS: [u8; katan::ROUND_KEYS] = [
     75,
     11,
     71,
-    7,
+    7, // kb of round 253
 ];
