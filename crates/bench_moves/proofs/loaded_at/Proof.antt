@@ -1,3 +1,5 @@
+use Prim.Native.Nat.{ℕ}
+use mathlib.Core.Path.{ap}
 use Rattle.bench.specs.Steps.{loadedAt}
 use Rattle.bench_moves.proofs.Sound.{already, is-block, not-refused}
 use borrow.Author.Needs.{needs}
@@ -21,7 +23,8 @@ unfolding loadedAt
 returns-2 c =
     let r = c .before .before .before in
     let a = r .before .before .before .before .before .before in
-    rw (is-block (a .args .variant) (a .args .h) (a .pre .0) (a .args .p .0) (a .pre .1) (r .registers-at .result) (r .registers-at .ensures) _ (c .before .x .given .1))
+    ap (λ (x : ℕ). record { key = a .args .h .key; position = a .args .p; registers = x })
+    (is-block (a .args .variant) (a .args .h) (a .pre .0) (a .args .p .0) (a .pre .1) (r .registers-at .result) (r .registers-at .ensures) _ (c .before .x .given .1))
 
 returns-3 : tie.Need-returns-3
 returns-3 c =

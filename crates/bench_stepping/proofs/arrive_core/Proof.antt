@@ -47,10 +47,12 @@ returns c =
     let whole = whole-record (a .sent .now) (counts-next (benchView (a .bench) (a .link)) (a .sent .now) (counting e) .0 .size) in
     simp (counting e, c .before .record-in .ensures ∙ whole, s .step .ensures .0, s .step .ensures .1, d .decided .ensures .0)
 
--- found wherever the decision stands, so that what they refuse is an arrival that says something else
 returns-2 : tie.Need-returns-2
-returns-2 c = search (needs, repeat-effect)
+returns-2 c =
+    let d = c .before .before .before in
+    repeat-effect (d .before .before .args .sent .now) _ (d .decided .ensures .1) (c .enum-told2 .given .1)
 
+-- found wherever the decision stands, so that what it refuses is an arrival that says something else
 returns-3 : tie.Need-returns-3
 returns-3 c = search (needs, refused-effect)
 

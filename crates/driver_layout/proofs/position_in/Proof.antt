@@ -1,6 +1,6 @@
 -- `driver_layout::position_in` meets its contract.
 -- Assumes nothing.
-use mathlib.Core.Path.{sym, _∙_}
+use mathlib.Core.Path.{refl, sym, _∙_}
 use borrow.Author.Tests.{eq-eqb, ne-eqb}
 use lib.ListN.{getD}
 use borrow.Author.Needs.{needs}
@@ -21,7 +21,7 @@ returns c =
 returns-2 : tie.Need-returns-2
 returns-2 c =
     let b = c .before in
-    rw (ne-eqb (getD (b .before .before .args .bytes .now) 0 0) 1 (λ e. c .if1 .left (b .byte-at .ensures ∙ e)))
+    rw (ne-eqb (getD (b .before .before .args .bytes .now) 0 0) 1 (λ e. c .if1 .left (b .byte-at .ensures ∙ e))) refl
 
 pub position-in-spec : {M : Type 1} → statement M
 position-in-spec = tie.close (tie.spec byte-at-requires byte-at-requires-2 returns returns-2)

@@ -1,5 +1,6 @@
 -- `driver_layout::put_lane` meets its contract.
 -- Assumes nothing.
+use mathlib.Core.Path.{refl}
 use Rattle.driver_layout.specs.Layout.{laneBytes}
 use borrow.Author.Needs.{needs}
 use Rattle.driver_layout.proofs.put_lane.Statement.{statement}
@@ -22,7 +23,7 @@ same-length c = search needs
 
 returns : tie.Need-returns
 unfolding laneBytes
-returns c = rw (c .enum-told .given .1)
+returns c = rw (c .enum-told .given .1) refl
 
 same-length-2 : tie.Need-same-length-2
 same-length-2 c = search needs

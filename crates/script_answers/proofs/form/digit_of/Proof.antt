@@ -1,3 +1,4 @@
+use mathlib.Core.Path.{refl}
 use borrow.Author.Needs.{needs}
 use borrow.Author.Tests.{lt-ltb, le-ltb}
 use Rattle.script_form.specs.Digits.{digit}
@@ -18,11 +19,11 @@ add-result-2 c = search needs
 
 returns : tie.Need-returns
 unfolding digit
-returns c = rw (lt-ltb _ _ (c .if1 .taken))
+returns c = rw (lt-ltb _ _ (c .if1 .taken)) refl
 
 returns-2 : tie.Need-returns-2
 unfolding digit
-returns-2 c = rw (le-ltb _ _ (c .if1 .left))
+returns-2 c = rw (le-ltb _ _ (c .if1 .left)) refl
 
 pub digit-of-spec : {M : Type 1} → statement M
 digit-of-spec =
