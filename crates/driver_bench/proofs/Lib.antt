@@ -1,6 +1,3 @@
 mod Held
 mod Arrivals
 mod Replays
-mod Fits
-mod Follows
-mod Memory

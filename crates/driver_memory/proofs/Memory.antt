@@ -14,11 +14,11 @@ use Rattle.bench.proofs.Lists.{every-list}
 use Rattle.driver_layout.specs.Layout.{benchLength, linkLength, benchIn, linkIn}
 use Rattle.driver_layout.specs.ReadBack.{BenchFits, LinkFits}
 use Rattle.driver_layout.proofs.ReadBack.{length-bench, length-link}
 use Rattle.driver_bench.specs.Calls.{arrivalWords, readingWords, ifCounted, arriveCall}
-use Rattle.driver_bench.specs.Follows.{Opens}
-use Rattle.driver_bench.specs.Memory.{Memory, openedMemory, DriverCall, arrive, read, lentFor, Returned, driverTransition, memoryAfter, returnsTo, WellLent, callOf, returnedAs, EveryListInMemory}
-use Rattle.driver_bench.proofs.Fits.{effect-fits}
-use Rattle.driver_bench.proofs.Follows.{fresh-bench-fits, fresh-link-fits, opened-bench, opened-link, every-opening, arrives, every-read}
+use Rattle.driver_memory.specs.Follows.{Opens}
+use Rattle.driver_memory.specs.Memory.{Memory, openedMemory, DriverCall, arrive, read, lentFor, Returned, driverTransition, memoryAfter, returnsTo, WellLent, callOf, returnedAs, EveryListInMemory}
+use Rattle.driver_memory.proofs.Fits.{effect-fits}
+use Rattle.driver_memory.proofs.Follows.{fresh-bench-fits, fresh-link-fits, opened-bench, opened-link, every-opening, arrives, every-read}
 
 -- ---- what memory keeps to, call by call
 

@@ -19,12 +19,12 @@ use Rattle.bench_record.specs.Checks.{fieldChecks, laneCheck}
 use Rattle.bench.specs.Checks.{emptyLane, turnChecks, emptyCheck, arrivalChecks, readChecks, Turn, counts, repeats, turnOf, decision, laneAnswer, readOutcome}
 use Rattle.bench.specs.Bench.{emptySlot, freshBench, freshLink, slotView, benchView, countedEffect, effectAs, arriveOf, readOf}
 use Rattle.driver_layout.specs.Layout.{benchLength, linkLength, benchIn, linkIn, benchBytes, linkBytes}
 use Rattle.driver_bench.specs.Calls.{openCall, openedBench, openedLink, arrivalWords, readingWords, heldCheck, ifCounted, readCall, arriveEffect, arriveCall}
 use Rattle.driver_layout.specs.ReadBack.{SlotsFit, BenchFits, LinkFits}
 use Rattle.driver_layout.proofs.ReadBack.{bench-read-back, link-read-back}
 use Rattle.driver_layout.proofs.Fits.{bench-in-fits, link-in-fits}
-use Rattle.driver_bench.specs.Follows.{EveryOpening, Arrives, EveryArrival, EveryRead}
-use Rattle.driver_bench.proofs.Fits.{effect-fits}
+use Rattle.driver_memory.specs.Follows.{EveryOpening, Arrives, EveryArrival, EveryRead}
+use Rattle.driver_memory.proofs.Fits.{effect-fits}
 
 -- ---- opening
 
