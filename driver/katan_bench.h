@@ -129,11 +129,11 @@ extern "C" {
  *         bytes 2 to 11          its key: key bit 8 j + b is bit b of byte j of the key
  *         bytes 12 to 19         its registers, below 2^n
  *
- * A bench may hold any bytes: katan_arrive and katan_read check every lane of it. A lane with another state, or a loaded one
- * with a position over 254 or a register bit set at n or above, is damaged, and both return KATAN_BAD_VARIANT. Of an
- * empty lane only the state is looked at and written: the other bytes are kept, and the driver may overwrite them. SO A
- * LANE THAT IS CLEARED KEEPS ITS OLD KEY in memory until it is loaded again or the driver wipes it, and two benches
- * whose lanes are alike may differ there.
+ * A bench may hold any bytes: katan_arrive and katan_read check every lane of it. A lane with another state, or a
+ * loaded one with a position over 254 or a register bit set at n or above, is damaged, and both return
+ * KATAN_BAD_VARIANT. Of an empty lane only the state is looked at and written: the other bytes are kept, and the
+ * driver may overwrite them. SO A LANE THAT IS CLEARED KEEPS ITS OLD KEY in memory until it is loaded again or the
+ * driver wipes it, and two benches whose lanes are alike may differ there.
  *
  * The layout of a link:
  *
