@@ -67,14 +67,19 @@ INLINE u64 scalar(int len1, int len2, int x2, int x3, int x4, int x5, int y2, in
     return l1 << len2 | l2;
 }
 
-INLINE u64 one(int variant, int decrypt, const u8 *key, u64 block) {
-    u8 k[ROUND_KEYS];
-    round_keys(variant, key, k);
+// One block with the key bits of all rounds at hand.
+INLINE u64 keyed(int variant, int decrypt, const u8 *k, u64 block) {
     switch (variant) {
     case 1: case 4: return scalar(13, 19, 7, 8, 5, 3, 7, 12, 10, 8, 3, 1, decrypt, k, block);
     case 2: case 5: return scalar(19, 29, 12, 15, 7, 6, 19, 21, 13, 15, 6, 2, decrypt, k, block);
     default: return scalar(25, 39, 15, 20, 11, 9, 25, 33, 21, 14, 9, 3, decrypt, k, block);
     }
+}
+
+INLINE u64 one(int variant, int decrypt, const u8 *key, u64 block) {
+    u8 k[ROUND_KEYS];
+    round_keys(variant, key, k);
+    return keyed(variant, decrypt, k, block);
 }
 
 uint64_t peer_one(int variant, int decrypt, const uint8_t *key, uint64_t block) {
@@ -83,6 +88,20 @@ uint64_t peer_one(int variant, int decrypt, const uint8_t *key, uint64_t block) 
 
 void peer_scalar(int variant, int decrypt, const u8 *keys, const u64 *blocks, u64 *out, size_t count) {
     for (size_t i = 0; i < count; i++) out[i] = peer_one(variant, decrypt, keys + 10 * i, blocks[i]);
+}
+
+// ---- counter mode, one block at a time, low byte first: the key bits are made once
+
+static int width(int variant) { return 32 + 16 * ((variant - 1) % 3); }
+
+void peer_keystream(int variant, const u8 *key, u64 start, const u8 *data, u8 *out, size_t length) {
+    u8 k[ROUND_KEYS];
+    size_t size = width(variant) / 8;
+    round_keys(variant, key, k);
+    for (size_t at = 0; at < length; at += size) {
+        u64 block = keyed(variant, 0, k, start++);
+        for (size_t j = at; j < at + size && j < length; j++, block >>= 8) out[j] = data[j] ^ (u8)block;
+    }
 }
 
 // ---- bit-sliced, in the way of the ciphers' authors: word i of a register holds bit i of all lanes
@@ -139,8 +158,6 @@ static void sliced(int variant, int decrypt, const u64 *key_words, u64 *words) {
         else sliced_rounds(25, 39, 15, 20, 11, 9, 25, 33, 21, 14, 9, 3, 0, k, words);
     }
 }
-
-static int width(int variant) { return 32 + 16 * ((variant - 1) % 3); }
 
 void peer_sliced(int variant, int decrypt, const u8 *keys, const u64 *blocks, u64 *out, size_t count) {
     u64 words[LANES] = {0}, key_words[KEY_BITS] = {0};

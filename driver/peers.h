@@ -24,4 +24,7 @@ many_blocks peer_sliced_transposed;
 // One block, as peer_scalar does it.
 uint64_t peer_one(int variant, int decrypt, const uint8_t *key, uint64_t block);
 
+// Counter mode with peer_scalar's code, one block at a time: the key bits are made once for the message.
+void peer_keystream(int variant, const uint8_t *key, uint64_t start, const uint8_t *data, uint8_t *out, size_t length);
+
 #endif

@@ -10,7 +10,7 @@ use Rattle.katan.specs.Sizes.{keyBytes}
 use Rattle.katan.specs.Counter.{rounds}
 use Rattle.katan.specs.Variant.{widthOf}
 use Rattle.katan.specs.declared.Refusal.{Refusal}
-use Rattle.katan.specs.declared.Refusal.the-variants.{BadVariant, BadLength, BadKind, FieldNotZero, BadLane, BadPosition, BadBlock, EmptyMask, OutOfTurn, OtherBytes, EmptyLane, BadRate, BadForm}
+use Rattle.katan.specs.declared.Refusal.the-variants.{BadVariant, BadLength, BadKind, FieldNotZero, BadLane, BadPosition, BadBlock, EmptyMask, OutOfTurn, OtherBytes, EmptyLane, BadRate, BadForm, BeyondEnd}
 
 -- the number of each refusal
 abbrev pub numberOf : Refusal → ℕ
@@ -27,6 +27,7 @@ numberOf OtherBytes = 10
 numberOf EmptyLane = 11
 numberOf BadRate = 12
 numberOf BadForm = 13
+numberOf BeyondEnd = 14
 
 -- what a call answers: a value, or a refusal's number
 pub data Outcome (A : Type 0) : Type 0 where

@@ -65,7 +65,7 @@ pub struct Key {
     pub high: u16,
 }
 
-// Document 01's "Turned away", 1 to 13 in its order.
+// Document 01's "Turned away", 1 to 13 in its order; 14 from document 02.
 pub enum Refusal {
     BadVariant,
     BadLength,
@@ -80,6 +80,7 @@ pub enum Refusal {
     EmptyLane,
     BadRate,
     BadForm,
+    BeyondEnd,
 }
 
 // What a call for a variant's row answers.

@@ -33,6 +33,7 @@ pub fn refusal_number(r: Refusal) -> u8
         Refusal::EmptyLane => 11,
         Refusal::BadRate => 12,
         Refusal::BadForm => 13,
+        Refusal::BeyondEnd => 14,
     }
 }
 

@@ -20,7 +20,7 @@ use Rattle.lanes.specs.Many.{results, any, lengthsCheck, blocksCheck, ma
 
 -- ---- tests on lists
 
-none-of : (b c : Bool) → pick b true c ≡ false → (b ≡ false) × (c ≡ false)
+pub none-of : (b c : Bool) → pick b true c ≡ false → (b ≡ false) × (c ≡ false)
 none-of true c e = let z : _≡_ {A = ℕ} 0 1 = cc in absurd (omega arith)
 none-of false c e = (refl, e)
 

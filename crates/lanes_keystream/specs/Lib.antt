@@ -1,0 +1,3 @@
+pub mod Stream
+pub mod Claim
+pub mod inner
