@@ -1,7 +1,9 @@
 //! The calls of one cipher as a caller makes them, with the checks of document 01's "Turned away"
-//! that apply: by rising number, the first fault found is the answer.
+//! that apply, and 14 of document 02: by rising number, but 14 before 7; the first fault found is
+//! the answer.
 
 use crate::cipher::{decrypt, encrypt, registers_at, Variant, ROUNDS};
+use crate::stream::{blocks_of, keystream};
 
 /// A refusal's number.
 #[derive(Clone, Copy, Debug, PartialEq, Eq)]
@@ -32,6 +34,19 @@ fn checked_block(variant: Variant, block: u64) -> Result<u64, Refusal> {
         Ok(block)
     } else {
         Err(Refusal(7))
+    }
+}
+
+/// The longest data of a keystream, in bytes.
+pub const LONGEST_DATA: usize = 4096;
+
+/// 14: the start plus the number of blocks exceeds 2^n, or the data is over 4,096 bytes.
+fn checked_end(variant: Variant, start: u64, length: usize) -> Result<(), Refusal> {
+    let end = start as u128 + blocks_of(variant, length) as u128;
+    if end > 1 << variant.width() || length > LONGEST_DATA {
+        Err(Refusal(14))
+    } else {
+        Ok(())
     }
 }
 
@@ -81,6 +96,25 @@ pub fn call_many(
     Ok(())
 }
 
+/// The data combined with the keystream into `out`, or the first fault in the order 1, 2, 14, 7.
+pub fn call_keystream(
+    variant: u8,
+    key: &[u8],
+    start: u64,
+    data: &[u8],
+    out: &mut [u8],
+) -> Result<(), Refusal> {
+    let variant = checked_variant(variant)?;
+    let key = checked_key(key)?;
+    if out.len() != data.len() {
+        return Err(Refusal(2));
+    }
+    checked_end(variant, start, data.len())?;
+    let start = checked_block(variant, start)?;
+    out.copy_from_slice(&keystream(variant, key, start, data));
+    Ok(())
+}
+
 pub fn call_registers_at(
     variant: u8,
     key: &[u8; 10],
@@ -93,4 +127,46 @@ pub fn call_registers_at(
     let to = checked_position(to)?;
     let block = checked_block(variant, block)?;
     Ok(registers_at(variant, key, from, to, block))
+}
+
+#[cfg(test)]
+mod tests {
+    use super::*;
+
+    /// Request (i)'s limits: variant, start, bytes of data, and the refusal's number or 0.
+    #[test]
+    fn where_a_keystream_ends() {
+        let cases = [
+            (1, 0xffff_fffe, 8, 0),
+            (1, 0xffff_fffe, 9, 14),
+            (1, 0xffff_ffff, 0, 0),
+            (1, 0xffff_ffff, 1, 0),
+            (4, 0x1_0000_0000, 0, 7),
+            (4, 0x1_0000_0000, 1, 14),
+            (4, 0x1_0000_0001, 0, 14),
+            (2, 0xffff_ffff_fffe, 12, 0),
+            (2, 0xffff_ffff_fffe, 13, 14),
+            (5, 0x1_0000_0000_0000, 0, 7),
+            (5, 0x1_0000_0000_0001, 0, 14),
+            (3, u64::MAX, 0, 0),
+            (3, u64::MAX, 8, 0),
+            (6, u64::MAX, 9, 14),
+            (6, u64::MAX - 511, 4096, 0),
+            (6, u64::MAX - 510, 4096, 14),
+            (1, 0, 4096, 0),
+            (1, 0, 4097, 14),
+            (6, 0, 4097, 14),
+        ];
+        for (variant, start, length, expected) in cases {
+            let mut out = vec![7; length];
+            let data = vec![0; length];
+            let answer = call_keystream(variant, &[1; 10], start, &data, &mut out);
+            let number = answer.map_or_else(|Refusal(number)| number, |()| 0);
+            assert_eq!(
+                number, expected,
+                "variant {variant}, start {start:x}, {length} bytes"
+            );
+            assert!(number == 0 || out.iter().all(|byte| *byte == 7));
+        }
+    }
 }

@@ -2,7 +2,7 @@
 //! layout that the driver's header documents.
 
 use crate::bench::{Bench, Lane, Reading, Reply, LANES, RECORD_LENGTH};
-use crate::calls::{call_decrypt, call_encrypt, call_many, Direction, Refusal};
+use crate::calls::{call_decrypt, call_encrypt, call_keystream, call_many, Direction, Refusal};
 use crate::cipher::Variant;
 
 /// A lane: its state, 0 empty and 1 loaded; its position; its key; its registers.
@@ -124,6 +124,10 @@ pub fn decrypt(variant: u8, key: &[u8], block: u64, out: &mut [u64]) -> u8 {
 
 pub fn many(direction: Direction, variant: u8, keys: &[u8], blocks: &[u64], out: &mut [u64]) -> u8 {
     status(call_many(direction, variant, keys, blocks, out).map_err(number))
+}
+
+pub fn keystream(variant: u8, key: &[u8], start: u64, data: &[u8], out: &mut [u8]) -> u8 {
+    status(call_keystream(variant, key, start, data, out).map_err(number))
 }
 
 pub fn cycles(blocks: u32) -> u64 {

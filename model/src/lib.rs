@@ -1,5 +1,6 @@
 //! A model of the KATAN and KTANTAN ciphers and of the stepping bench, written from the paper
-//! (document 004) and document 01. It shares no code with the Rattle crates that it is compared with.
+//! (document 004) and documents 01 and 02. It shares no code with the Rattle crates that it is
+//! compared with.
 
 pub mod bench;
 pub mod calls;
@@ -9,6 +10,7 @@ pub mod lists;
 pub mod random;
 pub mod script;
 pub mod scripts;
+pub mod stream;
 pub mod vectors;
 
 pub use bench::{Bench, Reading, Reply};
