@@ -3,9 +3,9 @@
  * shows them in use.
  *
  * Status. Each call but katan_version and katan_cycles returns 0, or the number of the first fault found. The faults
- * are looked for by rising number, as each call says under "Checked", with one exception: katan_arrive and katan_read
- * look at the bench's length (2), then at the bench (1), then at the other lengths (2). A refused call leaves all
- * lent memory as it was.
+ * are looked for by rising number, as each call says under "Checked", with two exceptions: katan_arrive and katan_read
+ * look at the bench's length (2), then at the bench (1), then at the other lengths (2); katan_keystream looks for 14
+ * before 7. A refused call leaves all lent memory as it was.
  *
  * Slices. A slice is lent as a pointer and then its length, in elements, not in bytes. A length other than the one
  * named at the call gets KATAN_BAD_LENGTH. A pointer is aligned for its element and is never NULL, also where the
@@ -36,7 +36,7 @@ extern "C" {
  * The version of this header: it rises with every change of a call's parameters, its numbers or a layout. A driver
  * compares it with katan_version(), which the archive was built with.
  */
-#define KATAN_VERSION 1
+#define KATAN_VERSION 2
 
 /* The variants. The number in a name is n, the bits of a block: 32, 48 or 64. */
 #define KATAN32 1
@@ -59,14 +59,16 @@ extern "C" {
 #define KATAN_FIELD_NOT_ZERO 4  /* an unused field or a zero byte of the record is not zero (katan_arrive) */
 #define KATAN_BAD_LANE 5        /* the lane is over 63 (katan_arrive, katan_read) */
 #define KATAN_BAD_POSITION 6    /* a load position is over 254, or a move count is 0 or over 254 (katan_arrive) */
-#define KATAN_BAD_BLOCK 7       /* a block is 2^n or more, never so where n is 64
-                                   (katan_encrypt, katan_decrypt, both for many blocks, katan_arrive) */
+#define KATAN_BAD_BLOCK 7       /* a block, or the start of a keystream, is 2^n or more, never so where n is 64
+                                   (katan_encrypt, katan_decrypt, both for many blocks, katan_keystream, katan_arrive) */
 #define KATAN_EMPTY_MASK 8      /* the mask of a move or clear is 0 (katan_arrive) */
 #define KATAN_OUT_OF_TURN 9     /* the number is neither last + 1 nor a nonzero last; numbers do not wrap, and after
                                    4,294,967,295 no further record counts (katan_arrive) */
 #define KATAN_OTHER_BYTES 10    /* the number is last but the bytes differ (katan_arrive) */
 #define KATAN_EMPTY_LANE 11     /* the lane read is empty (katan_read) */
 #define KATAN_BAD_RATE 12       /* the clock rate is 0 or over KATAN_HIGHEST_RATE (katan_bit_rate) */
+#define KATAN_BEYOND_END 14     /* the start plus the number of blocks exceeds 2^n, or the data is longer than
+                                   KATAN_LONGEST_DATA (katan_keystream) */
 
 #define KATAN_ROUNDS 254                /* positions are 0 to 254: the rounds that a block has behind it */
 #define KATAN_LANES 64                  /* of a bench, and the most blocks of a call for many */
@@ -74,6 +76,7 @@ extern "C" {
 
 /* Lengths in bytes. */
 #define KATAN_KEY_LENGTH 10
+#define KATAN_LONGEST_DATA 4096  /* of a call for a keystream */
 #define KATAN_RECORD_LENGTH 40
 #define KATAN_LANE_LENGTH 20
 #define KATAN_BENCH_LENGTH (1 + KATAN_LANE_LENGTH * KATAN_LANES)  /* 1281 */
@@ -197,6 +200,22 @@ uint8_t katan_encrypt_many(uint8_t variant, const uint8_t *keys, size_t keys_len
                            const uint64_t *blocks, size_t blocks_length, uint64_t *out, size_t out_length);
 uint8_t katan_decrypt_many(uint8_t variant, const uint8_t *keys, size_t keys_length,
                            const uint64_t *blocks, size_t blocks_length, uint64_t *out, size_t out_length);
+
+/*
+ * A keystream: counter mode, as NIST SP 800-38A has it, which both encrypts and decrypts. `key` has KATAN_KEY_LENGTH
+ * bytes, `data` 0 to KATAN_LONGEST_DATA, and `out` as many as `data`; the two may not be the same memory.
+ *
+ * Block i of the stream is the encryption of the number start + i, in n / 8 bytes, low byte first. On status 0 each byte
+ * of `out` is the byte of `data` there xor that of the stream. The last block may be short: its first bytes are taken.
+ * The number of blocks is the data's length divided by n / 8, rounded up. A longer message goes in parts of whole
+ * blocks: each starts where the blocks of the one before end. Two messages under one key must not share a block of the
+ * stream: there the xor of what is sent would be that of the messages.
+ *
+ * Checked: 1; 2 of `key` and `out`; 14; 7. So start plus blocks may be 2^n; with no data a start of 2^n gets 7, and a
+ * greater one 14.
+ */
+uint8_t katan_keystream(uint8_t variant, const uint8_t *key, size_t key_length, uint64_t start,
+                        const uint8_t *data, size_t data_length, uint8_t *out, size_t out_length);
 
 /* The cycles that a number of blocks takes: 254 for each. It has no status, and is never refused. */
 uint64_t katan_cycles(uint32_t blocks);

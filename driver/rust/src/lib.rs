@@ -20,7 +20,7 @@ pub mod raw;
 
 /// The version of the calls that this crate was written for: it rises with every change of a call's
 /// parameters, its numbers or a layout.
-pub const VERSION: u32 = 1;
+pub const VERSION: u32 = 2;
 
 /// The version of the calls that the archive was built with.
 ///
@@ -47,7 +47,7 @@ pub enum Refusal {
     BadLane = 5,
     /// A load position is over 254, or a move count is 0 or over 254.
     BadPosition = 6,
-    /// A block is 2^n or more.
+    /// A block, or the start of a keystream, is 2^n or more.
     BadBlock = 7,
     /// The mask of a move or clear is 0.
     EmptyMask = 8,
@@ -59,6 +59,9 @@ pub enum Refusal {
     EmptyLane = 11,
     /// The clock rate is 0 or over 2,940,000,000.
     BadRate = 12,
+    /// The start of a keystream plus the number of its blocks exceeds 2^n, or the data is over 4,096
+    /// bytes.
+    BeyondEnd = 14,
 }
 
 impl Refusal {
@@ -85,6 +88,7 @@ impl Refusal {
             10 => OtherBytes,
             11 => EmptyLane,
             12 => BadRate,
+            14 => BeyondEnd,
             _ => return None,
         };
         Some(refusal)
@@ -155,6 +159,36 @@ pub fn decrypt_many(
     out: &mut [u64],
 ) -> Result<(), Refusal> {
     checked(raw::decrypt_many(variant, keys, blocks, out), ())
+}
+
+/// The most bytes that one call of [`keystream`] takes.
+pub const LONGEST_DATA: usize = 4096;
+
+/// The data combined, by xor, with the keystream of counter mode: block i of the stream is the
+/// encryption of the number `start` + i, in n/8 bytes, low byte first. The last block may be short: its
+/// first bytes are taken. A second pass restores the data.
+///
+/// The checks are 1, 2, 14, 7, in this order.
+///
+/// ```
+/// use katan_bench::{keystream, Refusal};
+///
+/// let key = [0xff; 10];
+/// let message = b"Channel 7 at noon";
+/// let sent = keystream(1, &key, 1000, message)?;
+/// assert_ne!(sent, message);
+/// assert_eq!(keystream(1, &key, 1000, &sent)?, message);
+///
+/// // Zeros show the stream: block 0 encrypts to 7e1ff945.
+/// assert_eq!(keystream(1, &key, 0, &[0; 4])?, [0x45, 0xf9, 0x1f, 0x7e]);
+/// // Five bytes take two blocks, and from the last number there is only one.
+/// assert_eq!(keystream(1, &key, 0xffffffff, &[0; 5]), Err(Refusal::BeyondEnd));
+/// # Ok::<(), Refusal>(())
+/// ```
+pub fn keystream(variant: u8, key: &[u8], start: u64, data: &[u8]) -> Result<Vec<u8>, Refusal> {
+    let mut out = vec![0; data.len()];
+    let status = raw::keystream(variant, key, start, data, &mut out);
+    checked(status, out)
 }
 
 /// The cycles that blocks take.
@@ -393,7 +427,8 @@ mod tests {
     fn each_number_is_of_its_refusal() {
         for number in 0..=u8::MAX {
             let found = Refusal::from_number(number).map(Refusal::number);
-            assert_eq!(found, (1..=12).contains(&number).then_some(number));
+            let given = matches!(number, 1..=12 | 14);
+            assert_eq!(found, given.then_some(number));
         }
     }
 }

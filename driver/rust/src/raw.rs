@@ -47,6 +47,16 @@ mod c {
             out: *mut u64,
             out_length: usize,
         ) -> u8;
+        pub fn katan_keystream(
+            variant: u8,
+            key: *const u8,
+            key_length: usize,
+            start: u64,
+            data: *const u8,
+            data_length: usize,
+            out: *mut u8,
+            out_length: usize,
+        ) -> u8;
         pub fn katan_cycles(blocks: u32) -> u64;
         pub fn katan_bit_rate(variant: u8, hertz: u64, out: *mut u64, out_length: usize) -> u8;
         pub fn katan_open(
@@ -141,6 +151,21 @@ pub fn decrypt_many(variant: u8, keys: &[u8], blocks: &[u64], out: &mut [u64]) -
             keys.len(),
             blocks.as_ptr(),
             blocks.len(),
+            out.as_mut_ptr(),
+            out.len(),
+        )
+    }
+}
+
+pub fn keystream(variant: u8, key: &[u8], start: u64, data: &[u8], out: &mut [u8]) -> u8 {
+    unsafe {
+        c::katan_keystream(
+            variant,
+            key.as_ptr(),
+            key.len(),
+            start,
+            data.as_ptr(),
+            data.len(),
             out.as_mut_ptr(),
             out.len(),
         )

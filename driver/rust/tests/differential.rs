@@ -1,43 +1,13 @@
-//! Every function of the driver against the independent model, on sound and damaged input. The seed is
-//! printed; `KATAN_SEED` gives another, and `KATAN_CALLS` how many calls each test makes.
+//! Every function of the driver, but for the keystream, against the independent model, on sound and
+//! damaged input.
 
+mod common;
+
+use common::{length, one_of, start, variant, width};
 use katan_bench::raw::{self, BENCH_LENGTH, LINK_LENGTH};
 use katan_bench::{replay, Answer, Call, Reading, Refusal, Reply};
 use katan_model::calls::Direction;
 use katan_model::{bench as records, driver as model, Random, Variant};
-
-/// A number from the environment, or the one given.
-fn setting(name: &str, usual: u64) -> u64 {
-    std::env::var(name).map_or(usual, |text| {
-        text.parse()
-            .unwrap_or_else(|_| panic!("{name} is not a number: {text}"))
-    })
-}
-
-/// The generator of a test, and how many calls the test makes.
-fn start(test: &str, usual: u64) -> (Random, u64) {
-    let seed = setting("KATAN_SEED", 1);
-    let calls = setting("KATAN_CALLS", usual);
-    println!("{test}: KATAN_SEED={seed} KATAN_CALLS={calls}");
-    let salt = test.bytes().fold(0, |h: u64, byte| h * 31 + byte as u64);
-    (Random::new(seed ^ salt << 20), calls)
-}
-
-fn one_of<T: Clone>(random: &mut Random, choices: &[T]) -> T {
-    choices[random.below(choices.len() as u64) as usize].clone()
-}
-
-/// A variant number, mostly 1 to 6.
-fn variant(random: &mut Random) -> u8 {
-    match random.below(12) {
-        0 => one_of(random, &[0, 7, 8, 255]),
-        _ => 1 + random.below(6) as u8,
-    }
-}
-
-fn width(variant: u8) -> u32 {
-    Variant::from_number(variant).map_or(32, |variant| variant.width())
-}
 
 /// A block, mostly below 2^n; at either end now and then.
 fn block(random: &mut Random, variant: u8) -> u64 {
@@ -48,16 +18,6 @@ fn block(random: &mut Random, variant: u8) -> u64 {
         1 => largest,
         2 => largest.wrapping_add(1),
         _ => random.bits(width),
-    }
-}
-
-/// A length, mostly the one given.
-fn length(random: &mut Random, right: usize) -> usize {
-    match random.below(16) {
-        0 => right.saturating_sub(1),
-        1 => right + 1,
-        2 => random.below(2 * right as u64 + 3) as usize,
-        _ => right,
     }
 }
 

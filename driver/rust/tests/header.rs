@@ -1,6 +1,6 @@
 //! The numbers of the C header, against the calls.
 
-use katan_bench::{raw, record, version, Bench, Reading, Refusal, VERSION};
+use katan_bench::{raw, record, version, Bench, Reading, Refusal, LONGEST_DATA, VERSION};
 use std::collections::HashMap;
 
 /// The header's names for numbers: `#define NAME NUMBER`, perhaps with a suffix and a comment.
@@ -38,6 +38,7 @@ fn statuses_and_lengths() {
         ("KATAN_OTHER_BYTES", Refusal::OtherBytes),
         ("KATAN_EMPTY_LANE", Refusal::EmptyLane),
         ("KATAN_BAD_RATE", Refusal::BadRate),
+        ("KATAN_BEYOND_END", Refusal::BeyondEnd),
     ];
     for (name, refusal) in refusals {
         assert_eq!(names[name], usize::from(refusal.number()), "{name}");
@@ -52,6 +53,12 @@ fn statuses_and_lengths() {
         raw::LINK_LENGTH
     );
     assert_eq!(names["KATAN_CALL_ANSWER_LENGTH"], raw::ANSWER_LENGTH);
+    let key = vec![0; names["KATAN_KEY_LENGTH"]];
+    let longest = names["KATAN_LONGEST_DATA"];
+    assert_eq!(longest, LONGEST_DATA);
+    let status = |length| katan_bench::keystream(1, &key, 0, &vec![0; length]).err();
+    assert_eq!(status(longest), None);
+    assert_eq!(status(longest + 1), Some(Refusal::BeyondEnd));
     let highest = names["KATAN_HIGHEST_RATE"] as u64;
     assert!(katan_bench::bit_rate(1, highest).is_ok());
     assert_eq!(katan_bench::bit_rate(1, highest + 1), Err(Refusal::BadRate));
