@@ -1,9 +1,10 @@
 // The calls of a driver in C or Rust, for each a function of `driver_ciphers` or `driver_bench` with the same promise. Each but `katan_version` and
-// `katan_cycles` returns 0 or document 01's number of the first fault found, and a refused call leaves every lent output as it was.
+// `katan_cycles` returns 0 or the number of the first fault found, and a refused call leaves every lent output as it was.
 ghost use mathlib.Core.Path.{_≡_};
 ghost use Rattle.katan.specs.Lent.{statusOf, lentAfter};
 ghost use Rattle.lanes.specs.Many.{manyAnswer, manyOf};
 ghost use Rattle.lanes.specs.declared.Direction.the-variants.{Encrypt, Decrypt};
+ghost use Rattle.lanes_keystream.specs.Stream.{streamAnswer, streamOf};
 ghost use Rattle.katan_rate.specs.Rate.{cyclesOf};
 ghost use Rattle.driver_ciphers.specs.Calls.{interfaceVersion, word, encryptCall, decryptCall, rateCall};
 ghost use Rattle.driver_bench.specs.Calls.{openCall, openedBench, openedLink, responseWords, readCall, arriveCall, arrivedBench, arrivedLink, arrivedAnswer, replayCall, replayedBench, replayedAnswers};
@@ -60,6 +61,21 @@ pub extern "C" fn katan_decrypt_many(
     ensures { λ r. ⌜ now (out .exit) ≡ manyOf Decrypt variant (now (keys .entry)) (now (blocks .entry)) (now (out .entry)) ⌝ }
 {
     driver_ciphers::decrypt_many(variant, keys, blocks, out)
+}
+
+// Encrypts or decrypts a message with the stream of the blocks from `start` on.
+#[no_mangle]
+pub extern "C" fn katan_keystream(
+    variant: u8,
+    key: &[u8],
+    start: u64,
+    message: &[u8],
+    out: &mut [u8],
+) -> u8
+    ensures { λ r. ⌜ r ≡ statusOf (streamAnswer variant (now (key .entry)) start (now (message .entry)) (now (out .entry))) ⌝ }
+    ensures { λ r. ⌜ now (out .exit) ≡ streamOf variant (now (key .entry)) start (now (message .entry)) (now (out .entry)) ⌝ }
+{
+    driver_ciphers::keystream(variant, key, start, message, out)
 }
 
 // The cycles that a number of blocks takes.

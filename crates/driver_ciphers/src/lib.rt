@@ -1,10 +1,11 @@
-// The calls of a driver on one block, on many blocks and on the rate: numbers, and lent slices. Each returns 0 or document 01's number of the
+// The calls of a driver on one block, on many blocks, on a message and on the rate: numbers, and lent slices. Each returns 0 or the number of the
 // first fault found, and a refused call leaves every lent output as it was.
 ghost use mathlib.Core.Path.{_≡_};
 ghost use Rattle.katan.specs.Lent.{statusOf, lentAfter};
 ghost use Rattle.katan_registers.specs.Answers.{blockOutcome};
-ghost use Rattle.lanes.specs.Many.{manyAnswer, manyOf};
+ghost use Rattle.lanes.specs.Many.{manyOutcome, manyAnswer, manyOf};
 ghost use Rattle.lanes.specs.declared.Direction.the-variants.{Encrypt, Decrypt};
+ghost use Rattle.lanes_keystream.specs.Stream.{streamAnswer, streamOf};
 ghost use Rattle.katan_rate.specs.Rate.{cyclesOf, rateOutcome};
 ghost use Rattle.driver_ciphers.specs.Calls.{interfaceVersion, word, wordCall, encryptCall, decryptCall, rateCall};
 ghost use Rattle.driver_ciphers.specs.inner.Words.{wordOutcome};
@@ -17,7 +18,7 @@ use lanes::Direction;
 const ACCEPTED: u8 = 0;
 
 // The version of the calls: their parameters, numbers and layouts.
-const VERSION: u32 = 1;
+const VERSION: u32 = 2;
 
 // The answer of a call that gives one word.
 enum WordAnswer {
@@ -81,14 +82,20 @@ pub fn decrypt(variant: u8, key: &[u8], block: u64, out: &mut [u64]) -> u8
     put_word(variant, block_word(decrypted), out)
 }
 
+fn status(answer: lanes::Answer) -> u8
+    ensures { λ r. ⌜ r ≡ statusOf (manyOutcome answer) ⌝ }
+{
+    match answer {
+        lanes::Answer::Done => ACCEPTED,
+        lanes::Answer::Refused(r) => refusal_number(r),
+    }
+}
+
 fn many(direction: Direction, variant: u8, keys: &[u8], blocks: &[u64], out: &mut [u64]) -> u8
     ensures { λ r. ⌜ r ≡ statusOf (manyAnswer variant (now (keys .entry)) (now (blocks .entry)) (now (out .entry))) ⌝ }
     ensures { λ r. ⌜ now (out .exit) ≡ manyOf direction variant (now (keys .entry)) (now (blocks .entry)) (now (out .entry)) ⌝ }
 {
-    match lanes::many(direction, variant, keys, blocks, out) {
-        lanes::Answer::Done => ACCEPTED,
-        lanes::Answer::Refused(r) => refusal_number(r),
-    }
+    status(lanes::many(direction, variant, keys, blocks, out))
 }
 
 // Encrypts 1 to 64 blocks, block i with the key in bytes 10i to 10i + 9.
@@ -105,6 +112,14 @@ pub fn decrypt_many(variant: u8, keys: &[u8], blocks: &[u64], out: &mut [u64]) -
     ensures { λ r. ⌜ now (out .exit) ≡ manyOf Decrypt variant (now (keys .entry)) (now (blocks .entry)) (now (out .entry)) ⌝ }
 {
     many(Direction::Decrypt, variant, keys, blocks, out)
+}
+
+// Encrypts or decrypts a message with the stream of the blocks from `start` on.
+pub fn keystream(variant: u8, key: &[u8], start: u64, message: &[u8], out: &mut [u8]) -> u8
+    ensures { λ r. ⌜ r ≡ statusOf (streamAnswer variant (now (key .entry)) start (now (message .entry)) (now (out .entry))) ⌝ }
+    ensures { λ r. ⌜ now (out .exit) ≡ streamOf variant (now (key .entry)) start (now (message .entry)) (now (out .entry)) ⌝ }
+{
+    status(lanes_keystream::keystream(variant, key, start, message, out))
 }
 
 // The cycles that a number of blocks takes.
