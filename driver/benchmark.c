@@ -94,6 +94,52 @@ static void blocks_table(int decrypt) {
     }
 }
 
+// ---- a message
+
+static uint8_t message[KATAN_LONGEST_DATA], sent[KATAN_LONGEST_DATA], sent_by_c[KATAN_LONGEST_DATA];
+static uint64_t numbers[KATAN_LONGEST_DATA];
+
+static void our_keystream(int variant, uint64_t start, size_t length) {
+    must(katan_keystream(variant, keys, 10, start, message, length, sent, length) == 0, "a keystream was refused");
+}
+
+// The calls of many blocks that a message needs, and nothing else of its work.
+static void its_batches(int variant, size_t length) {
+    size_t count = (length + width(variant) / 8 - 1) / (width(variant) / 8);
+    for (size_t first = 0; first < count; first += LANES) our_many(variant, 0, keys, numbers + first, out, LANES);
+}
+
+static void message_table(size_t length) {
+    printf("\nA message of %zu bytes\n", length);
+    printf("variant   times as fast as plain C   time of its calls of many blocks   (ns)\n");
+    for (int variant = 1; variant <= 6; variant++) {
+        double plain = 1e18, ours = 1e18, batches = 1e18;
+        fill(variant);
+        uint64_t start = blocks[0] / 2;
+        for (int i = 10; i < 10 * LANES; i++) keys[i] = keys[i % 10];
+        for (size_t j = 0; j < sizeof message; j++) message[j] = random64() >> 32;
+        for (size_t i = 0; i < KATAN_LONGEST_DATA; i++) numbers[i] = start + i;
+        for (size_t n = 0; n <= length; n += n < 600 ? 1 : length - n < 37 ? 1 : 37) {
+            our_keystream(variant, start, n);
+            peer_keystream(variant, keys, start, message, sent_by_c, n);
+            must(memcmp(sent, sent_by_c, n) == 0, "results differ");
+        }
+        for (int repeat = 0; repeat < REPEATS; repeat++) {
+            double a = nanoseconds();
+            our_keystream(variant, start, length);
+            double b = nanoseconds();
+            its_batches(variant, length);
+            double c = nanoseconds();
+            peer_keystream(variant, keys, start, message, sent_by_c, length);
+            double d = nanoseconds();
+            if (b - a < ours) ours = b - a;
+            if (c - b < batches) batches = c - b;
+            if (d - c < plain) plain = d - c;
+        }
+        printf("%-9d %-26.0f %-34.2f %.0f\n", variant, plain / ours, ours / batches, ours);
+    }
+}
+
 // ---- the bench: arrivals and reads
 
 static uint8_t bench[KATAN_BENCH_LENGTH], kept[KATAN_BENCH_LENGTH];
@@ -177,6 +223,7 @@ int main(void) {
     peers_init();
     blocks_table(0);
     blocks_table(1);
+    message_table(KATAN_LONGEST_DATA);
     bench_table();
     return 0;
 }

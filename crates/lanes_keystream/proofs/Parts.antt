@@ -3,12 +3,12 @@
 use mathlib.Core.Path.{_≡_, refl, sym, ap, _∙_}
 use mathlib.Core.Bool.{Bool, true, false}
 use mathlib.Core.List.{List, _++_}
-use Prim.Native.Nat.{ℕ, _+_, _-_, _*_, _%_, _<_, _≤_}
+use Prim.Native.Nat.{ℕ, _+_, _-_, _<_, _≤_}
 use native.Mathlib.Omega.{arith}
 use borrow.Author.Tests.{ltb-true, ltb-false}
 use lib.Dec.{ltb}
 use lib.ListN.{length, getD, take, drop, set, List·getD-append}
-use lib.Seq.{getD-take, getD-drop, getD-append-add, getD-set-same, getD-set-other, length-take-le}
+use lib.Seq.{getD-take, getD-append-add, getD-set-same, getD-set-other, length-take-le}
 use Rattle.katan.specs.inner.Within.{Entries}
 use Rattle.lanes_keystream.specs.inner.Batch.{Written}
 

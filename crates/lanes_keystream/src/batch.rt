@@ -1,7 +1,7 @@
 // The stream of a message, 64 blocks at a time.
 ghost use mathlib.Core.Path.{_≡_};
 ghost use mathlib.Core.Bool.{false};
-ghost use Prim.Native.Nat.{ℕ, _+_, _-_, _*_, _/_, _%_, _^_, _<_, _≤_};
+ghost use Prim.Native.Nat.{ℕ, _+_, _-_, _*_, _%_, _^_, _<_, _≤_};
 ghost use lib.ListN.{getD, length};
 ghost use Rattle.katan.specs.Bit.{xor, numberIn};
 ghost use Rattle.katan.specs.Checks.{variantCheck};

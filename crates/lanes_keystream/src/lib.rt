@@ -1,6 +1,6 @@
 // A keystream: counter mode, 64 blocks at a time through the lanes, with one key.
 ghost use mathlib.Core.Path.{_≡_};
-ghost use Prim.Native.Nat.{ℕ, _+_, _-_, _*_, _/_, _^_, _<_, _≤_};
+ghost use Prim.Native.Nat.{_+_, _-_, _/_, _^_, _<_, _≤_};
 ghost use lib.Dec.{ltb};
 ghost use Rattle.katan.specs.Sizes.{wordBits};
 ghost use Rattle.lanes.specs.Many.{manyOutcome};

@@ -1,16 +1,15 @@
 -- `lanes_keystream::batch::combine_all` meets its contract. The loop's invariant: the bytes of the first blocks are combined.
 -- Assumes nothing.
 use mathlib.Core.Path.{_≡_, refl, sym, ap, subst, _∙_}
-use Prim.Native.Nat.{ℕ, _+_, _-_, _*_, _^_, _<_, _≤_}
+use Prim.Native.Nat.{ℕ, _+_, _-_, _*_, _≤_}
 use native.Mathlib.Nat.{le-of-lt}
 use native.Mathlib.Omega.{arith}
 use borrow.Author.Needs.{needs}
-use lib.ListN.{length, getD}
+use lib.ListN.{length}
 use Rattle.katan.specs.Bit.{numberIn}
-use Rattle.katan.specs.Sizes.{laneCount, keyBytes}
 use Rattle.katan.specs.Machine.{encryption}
 use Rattle.lanes.specs.Many.{blockKey}
-use Rattle.lanes_keystream.specs.Stream.{blockBytes, blockCount}
+use Rattle.lanes_keystream.specs.Stream.{blockCount}
 use Rattle.lanes_keystream.specs.inner.Batch.{batchLength}
 use Rattle.lanes_keystream.proofs.Batches.{bytes-known}
 use Rattle.lanes_keystream.proofs.Counter.{some-bytes}

@@ -1,15 +1,14 @@
 -- `lanes_keystream::batch::put_batch` meets its contract.
 -- Assumes nothing.
-use mathlib.Core.Path.{_≡_, refl, sym, ap, subst, _∙_}
-use Prim.Native.Nat.{ℕ, _+_, _*_, _^_, _<_, _≤_}
+use mathlib.Core.Path.{refl, sym, ap, subst, _∙_}
+use Prim.Native.Nat.{ℕ, _+_, _≤_}
 use native.Mathlib.Omega.{arith}
 use borrow.Author.Needs.{needs}
 use lib.ListN.{getD, replicate}
-use Rattle.katan.specs.Sizes.{laneCount, keyBytes}
+use Rattle.katan.specs.Sizes.{laneCount}
 use Rattle.katan.specs.Variant.{widthOf}
 use Rattle.katan.specs.Machine.{encryption}
 use Rattle.lanes.specs.Many.{blockKey}
-use Rattle.lanes_keystream.specs.Stream.{blockBytes}
 use Rattle.lanes_keystream.proofs.Counter.{some-bytes, most-bytes}
 use Rattle.lanes_keystream.proofs.Batches.{width-word, numbers-small, one-done, bytes-known}
 use Rattle.lanes_keystream.proofs.batch.put_batch.Statement.{statement}

@@ -1,9 +1,8 @@
 -- `lanes_keystream::batch::put_numbers` meets its contract. The loop's invariant: the first i numbers are written, and the others are as they were.
 -- Assumes nothing.
-use mathlib.Core.Path.{_≡_, refl, sym, ap, _∙_}
+use mathlib.Core.Path.{_≡_, refl, _∙_}
 use Prim.Native.Nat.{ℕ, _+_, _-_, _≤_}
 use native.Mathlib.Omega.{arith}
-use borrow.Author.Needs.{needs}
 use lib.ListN.{length, length-set, getD}
 use lib.Seq.{getD-set-other}
 use Rattle.katan.specs.inner.Within.{Entries}
