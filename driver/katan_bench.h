@@ -8,8 +8,9 @@
  * before 7. A refused call leaves all lent memory as it was.
  *
  * Slices. A slice is lent as a pointer and then its length, in elements, not in bytes. A length other than the one
- * named at the call gets KATAN_BAD_LENGTH. A pointer is aligned for its element and is never NULL, also where the
- * length is 0: lend the address of any object then. Memory that a call may write is writable for its whole length.
+ * named at the call gets KATAN_BAD_LENGTH; data too long for a keystream gets KATAN_BEYOND_END. A pointer is aligned
+ * for its element and is never NULL, also where the length is 0: lend the address of any object then. Memory that a
+ * call may write is writable for its whole length.
  *
  * LENT MEMORY MUST NOT OVERLAP: during a call, memory that the call may write shares no byte with any other memory
  * lent to it, and nothing else reads or writes it. Memory that a call only reads may be shared with other readers.
@@ -18,8 +19,8 @@
  * reads and writes no other memory, and may be made from several threads at once on memory of their own. It does not
  * wipe its stack, where copies of keys may stay.
  *
- * Stack. A call needs up to 41 kB, measured on x86-64 without what a dynamic linker takes: katan_keystream 41,
- * katan_encrypt_many and katan_decrypt_many 39, katan_replay 37, katan_arrive 29, katan_read 13, every other under 3.
+ * Stack. A call needs up to 42 kB, measured on x86-64 without what a dynamic linker takes: katan_keystream 42,
+ * katan_encrypt_many and katan_decrypt_many 40, katan_replay 37, katan_arrive 29, katan_read 13, every other under 3.
  * The archive calls the C library's memcpy and memset.
  */
 #ifndef KATAN_BENCH_H
@@ -205,11 +206,11 @@ uint8_t katan_decrypt_many(uint8_t variant, const uint8_t *keys, size_t keys_len
  * A keystream: counter mode, as NIST SP 800-38A has it, which both encrypts and decrypts. `key` has KATAN_KEY_LENGTH
  * bytes, `data` 0 to KATAN_LONGEST_DATA, and `out` as many as `data`; the two may not be the same memory.
  *
- * Block i of the stream is the encryption of the number start + i, in n / 8 bytes, low byte first. On status 0 each byte
- * of `out` is the byte of `data` there xor that of the stream. The last block may be short: its first bytes are taken.
- * The number of blocks is the data's length divided by n / 8, rounded up. A longer message goes in parts of whole
- * blocks: each starts where the blocks of the one before end. Two messages under one key must not share a block of the
- * stream: there the xor of what is sent would be that of the messages.
+ * Block i of the stream, i from 0, is the encryption of the number start + i, in n / 8 bytes, low byte first. On
+ * status 0 each byte of `out` is the byte of `data` there xor that of the stream. The last block may be short: its
+ * first bytes are taken. The number of blocks is the data's length divided by n / 8, rounded up. A longer message goes
+ * in parts of whole blocks: each starts where the blocks of the one before end. Two messages under one key must not
+ * share a block of the stream: there the xor of what is sent would be that of the messages.
  *
  * Checked: 1; 2 of `key` and `out`; 14; 7. So start plus blocks may be 2^n; with no data a start of 2^n gets 7, and a
  * greater one 14.

@@ -82,6 +82,7 @@ pub fn decrypt(variant: u8, key: &[u8], block: u64, out: &mut [u64]) -> u8
     put_word(variant, block_word(decrypted), out)
 }
 
+// The status of a call through the lanes.
 fn status(answer: lanes::Answer) -> u8
     ensures { λ r. ⌜ r ≡ statusOf (manyOutcome answer) ⌝ }
 {

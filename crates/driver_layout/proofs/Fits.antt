@@ -8,13 +8,13 @@ use native.Mathlib.Omega.{arith}
 use lib.Dec.{eqb}
 use lib.ListN.{length, getD, take, drop}
 use Rattle.katan.specs.Bit.{pick, AreBytes}
-use Rattle.katan.specs.Sizes.{laneCount, keyBytes}
+use Rattle.katan.specs.Sizes.{laneCount, wordBytes, keyBytes}
 use Rattle.katan.proofs.Tables.{length-tabulate}
 use Rattle.bench_record.specs.Fields.{recordLength, part}
 use Rattle.bench_record.specs.Codec.{recordIn}
 use Rattle.bench_record.proofs.Parts.{take-bytes, drop-bytes, part-lt}
 use Rattle.bench.specs.declared.Lane.the-variants.{Empty, Held}
-use Rattle.driver_layout.specs.Layout.{wordBytes, numberBytes, statePlace, keyStart, registersStart, laneLength, lanesStart, lastStart, totalStart, recordStart, emptyState, loadedIn, laneIn, slotsIn, benchIn, linkIn}
+use Rattle.driver_layout.specs.Layout.{numberBytes, statePlace, keyStart, registersStart, laneLength, lanesStart, lastStart, totalStart, recordStart, emptyState, loadedIn, laneIn, slotsIn, benchIn, linkIn}
 use Rattle.driver_layout.specs.ReadBack.{LaneFits, SlotsFit, BenchFits, LinkFits}
 
 -- ---- a lane

@@ -8,7 +8,7 @@ use lib.ListN.{length, take, drop, length-append, length-drop, length-set}
 use lib.Seq.{length-take-le, take-all, take-at, drop-at, drop-drop}
 use Rattle.katan.specs.Bit.{numberIn}
 use Rattle.katan.specs.Key.{keyNumber, keyOf}
-use Rattle.katan.specs.Sizes.{keyBytes}
+use Rattle.katan.specs.Sizes.{wordBytes, keyBytes}
 use Rattle.bench_record.specs.Fields.{recordLength, part}
 use Rattle.bench_record.specs.Codec.{recordIn}
 use Rattle.bench_record.proofs.Parts.{whole-record}
@@ -20,7 +20,7 @@ use Rattle.bench.specs.declared.Bench.{Bench}
 use Rattle.bench.specs.declared.Link.{Link}
 use Rattle.katan.proofs.KeyNumbers.{key-is}
 use Rattle.katan.specs.Bit.{bytesOf}
-use Rattle.driver_layout.specs.Layout.{wordBytes, numberBytes, keyStart, registersStart, laneLength, lanesStart, benchLength, lastStart, totalStart, recordStart, linkLength, loadedIn, laneIn, slotsIn, benchIn, linkIn, loadedBytes, laneBytes, slotBytes, benchBytes, linkBytes}
+use Rattle.driver_layout.specs.Layout.{numberBytes, keyStart, registersStart, laneLength, lanesStart, benchLength, lastStart, totalStart, recordStart, linkLength, loadedIn, laneIn, slotsIn, benchIn, linkIn, loadedBytes, laneBytes, slotBytes, benchBytes, linkBytes}
 use Rattle.driver_layout.specs.ReadBack.{LaneFits, SlotsFit, BenchFits, LinkFits, BenchReadBack, LinkReadBack}
 use Rattle.katan.proofs.Numbers.{length-bytes, number-bytes}
 use Rattle.driver_layout.proofs.Turns.{bench-with}

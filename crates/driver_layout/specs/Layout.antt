@@ -6,7 +6,7 @@ use lib.Dec.{eqb}
 use lib.ListN.{length, getD, set, take, drop, replicate}
 use Rattle.katan.specs.Bit.{pick, bytesOf}
 use Rattle.katan.specs.Key.{keyNumber, keyOf}
-use Rattle.katan.specs.Sizes.{laneCount, keyBytes}
+use Rattle.katan.specs.Sizes.{laneCount, wordBytes, keyBytes}
 use Rattle.bench_record.specs.Fields.{recordLength, part}
 use Rattle.bench_record.specs.Codec.{recordIn}
 use Rattle.bench.specs.declared.Loaded.{Loaded}
@@ -16,10 +16,7 @@ use Rattle.bench.specs.declared.Slot.{Slot}
 use Rattle.bench.specs.declared.Bench.{Bench}
 use Rattle.bench.specs.declared.Link.{Link}
 
--- the bytes of a word, and of a link's number and total
-abbrev pub wordBytes : ℕ
-wordBytes = 8
-
+-- the bytes of a link's number and total
 abbrev pub numberBytes : ℕ
 numberBytes = 4
 

@@ -19,11 +19,10 @@ use katan::KEY_BYTES;
 use katan::Key;
 use katan::LANES;
 use katan::RoundPosition;
+use katan::WORD_BYTES;
 use katan_numbers::byte_at;
 
-// The bytes of a word, and of a link's number and total.
-const WORD_BYTES: usize = 8;
-
+// The bytes of a link's number and total.
 const NUMBER_BYTES: usize = 4;
 
 // A lane: its state, its position, its key, its registers.

@@ -10,6 +10,10 @@ laneCount = 64
 abbrev pub wordBits : ℕ
 wordBits = 64
 
+-- the bytes of a word
+abbrev pub wordBytes : ℕ
+wordBytes = 8
+
 -- the bytes of a key
 abbrev pub keyBytes : ℕ
 keyBytes = 10

@@ -18,6 +18,9 @@ pub const LANES: usize = 64;
 // The bits of a word: so many lanes are worked together.
 pub const WORD_BITS: usize = 64;
 
+// The bytes of a word.
+pub const WORD_BYTES: usize = 8;
+
 // The bytes of a key.
 pub const KEY_BYTES: usize = 10;
 

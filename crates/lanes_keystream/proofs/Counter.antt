@@ -8,6 +8,7 @@ use native.Mathlib.Omega.{arith}
 use lib.ListN.{length, getD, take, drop, length-drop, length-take}
 use lib.Seq.{getD-drop, getD-take, length-take-le}
 use Rattle.katan.specs.Bit.{xor, bytesOf}
+use Rattle.katan.specs.Sizes.{wordBytes}
 use Rattle.katan.specs.Machine.{encryption}
 use Rattle.katan.specs.Variant.{row32, rows}
 use Rattle.katan.specs.inner.Within.{Entries}
@@ -16,7 +17,7 @@ use Rattle.katan.proofs.Fill.{full}
 use Rattle.katan.proofs.Numbers.{length-bytes}
 use Rattle.katan.proofs.Tables.{entry, length-tabulate}
 use Rattle.katan.proofs.Undo.{sound}
-use Rattle.lanes_keystream.specs.Stream.{blockBytes, blockCount, streamByte, streamed}
+use Rattle.lanes_keystream.specs.Stream.{blockBytes, blockCount, streamByte, outByte, streamed}
 use Rattle.lanes_keystream.specs.Claim.{combined}
 
 -- ---- the bytes of a block, and the blocks of m bytes
@@ -33,7 +34,7 @@ row-bytes (suc (suc (suc (suc (suc (suc i)))))) = omega arith
 pub some-bytes : (v : ℕ) → 0 < blockBytes v
 some-bytes v = row-bytes (v - 1)
 
-pub most-bytes : (v : ℕ) → blockBytes v ≤ 8
+pub most-bytes : (v : ℕ) → blockBytes v ≤ wordBytes
 most-bytes v = omega (arith, sound v .n-fits)
 
 -- fewer bytes have no more blocks
@@ -53,10 +54,6 @@ starts-within v m first q =
     omega (arith, some-bytes v, le-div-iff-mul-le {k = s} {x = suc first} {y = m + (s - 1)} (some-bytes v) .0 q)
 
 -- ---- entry by entry
-
--- byte j of the output
-abbrev pub outByte : (v key start : ℕ) → List ℕ → ℕ → ℕ
-outByte v key start message j = xor (getD message j 0) (streamByte v key start j)
 
 module _ (v key start : ℕ) (message : List ℕ) where
   pub streamed-length : length (streamed v key start message) ≡ length message

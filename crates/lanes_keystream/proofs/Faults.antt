@@ -43,12 +43,12 @@ module _ (v : ℕ) (key : List ℕ) (start : ℕ) (message out : List ℕ) where
       (sym (no-fault-found cs (value tt) z), sym (ap (λ (o : Outcome (List ℕ)). lentAfter (λ (xs : List ℕ). xs) o out) (no-fault-found cs (value ys) z)))
 
   pub refuses-variant : (k : ℕ) → k ≡ 1 → variantCheck v .fault ≡ true → Promised (refused k) out
-  refuses-variant k q f = rw q (refuses [] (variantCheck v) (keyCheck key ∷ sizeCheck (length message) out ∷ endCheck v start message ∷ blockCheck v start ∷ []) refl tt f)
+  refuses-variant k q f = rw q (refuses [] (variantCheck v) _ refl tt f)
 
   module _ (known : variantCheck v .fault ≡ false) where
     pub refuses-key : (length key ≡ keyBytes → ⊥) → Promised (refused 2) out
     refuses-key f =
-        refuses (variantCheck v ∷ []) (keyCheck key) (sizeCheck (length message) out ∷ endCheck v start message ∷ blockCheck v start ∷ []) refl (known, tt) (rw (ne-eqb (length key) keyBytes f))
+        refuses (variantCheck v ∷ []) (keyCheck key) _ refl (known, tt) (rw (ne-eqb (length key) keyBytes f))
 
     module _ (whole : length key ≡ keyBytes) where
       key-passes : keyCheck key .fault ≡ false
@@ -56,29 +56,29 @@ module _ (v : ℕ) (key : List ℕ) (start : ℕ) (message out : List ℕ) where
 
       pub refuses-size : (length out ≡ length message → ⊥) → Promised (refused 2) out
       refuses-size f =
-          refuses (variantCheck v ∷ keyCheck key ∷ []) (sizeCheck (length message) out) (endCheck v start message ∷ blockCheck v start ∷ []) refl (known, (key-passes, tt)) (rw (ne-eqb (length out) (length message) f))
+          refuses (variantCheck v ∷ keyCheck key ∷ []) (sizeCheck (length message) out) _ refl (known, (key-passes, tt)) (rw (ne-eqb (length out) (length message) f))
 
       module _ (same : length out ≡ length message) where
         size-passes : sizeCheck (length message) out .fault ≡ false
         size-passes = rw (eq-eqb (length out) (length message) same)
 
         refuses-14 : endCheck v start message .fault ≡ true → Promised (refused 14) out
-        refuses-14 = refuses (variantCheck v ∷ keyCheck key ∷ sizeCheck (length message) out ∷ []) (endCheck v start message) (blockCheck v start ∷ []) refl (known, (key-passes, (size-passes, tt)))
+        refuses-14 = refuses (variantCheck v ∷ keyCheck key ∷ sizeCheck (length message) out ∷ []) (endCheck v start message) _ refl (known, (key-passes, (size-passes, tt)))
 
         pub refuses-long : longestMessage < length message → Promised (refused 14) out
         refuses-long f = refuses-14 (second-fault (ltb (2 ^ widthOf v) (start + blockCount v (length message))) (ltb longestMessage (length message)) (lt-ltb longestMessage (length message) f))
 
-        module _ (short : length message ≤ longestMessage) where
-          pub refuses-end : ltb (2 ^ widthOf v) (start + blockCount v (length message)) ≡ true → Promised (refused 14) out
-          refuses-end f = refuses-14 (rw f)
+        pub refuses-end : ltb (2 ^ widthOf v) (start + blockCount v (length message)) ≡ true → Promised (refused 14) out
+        refuses-end f = refuses-14 (rw f)
 
+        module _ (short : length message ≤ longestMessage) where
           module _ (within : ltb (2 ^ widthOf v) (start + blockCount v (length message)) ≡ false) where
             end-passes : endCheck v start message .fault ≡ false
             end-passes = rw (within, le-ltb longestMessage (length message) short)
 
             pub refuses-start : blockCheck v start .fault ≡ true → Promised (refused 7) out
             refuses-start =
-                refuses (variantCheck v ∷ keyCheck key ∷ sizeCheck (length message) out ∷ endCheck v start message ∷ []) (blockCheck v start) [] refl
+                refuses (variantCheck v ∷ keyCheck key ∷ sizeCheck (length message) out ∷ endCheck v start message ∷ []) (blockCheck v start) _ refl
                 (known, (key-passes, (size-passes, (end-passes, tt))))
 
             pub finishes : blockCheck v start .fault ≡ false → (new : List ℕ) → new ≡ streamed v (numberIn key) start message → Promised (value tt) new

@@ -11,14 +11,14 @@ use lib.Dec.{ltb}
 use lib.ListN.{length, getD, take, drop, length-drop}
 use lib.Seq.{ext-getD, getD-take, getD-drop, length-take-le}
 use Rattle.katan.specs.Bit.{xor, numberIn, bytesOf}
-use Rattle.katan.specs.Sizes.{laneCount, keyBytes}
+use Rattle.katan.specs.Sizes.{laneCount, wordBytes, keyBytes}
 use Rattle.katan.specs.Machine.{encryption}
 use Rattle.katan.specs.inner.Within.{Entries}
 use Rattle.lanes.specs.Many.{blockKey}
-use Rattle.lanes_keystream.specs.Stream.{blockBytes, blockCount, longestMessage, streamed}
+use Rattle.lanes_keystream.specs.Stream.{blockBytes, blockCount, longestMessage, outByte, streamed}
 use Rattle.lanes_keystream.specs.inner.Batch.{batchLength, Written, byteOf}
 use Rattle.lanes_keystream.proofs.Places.{place-byte}
-use Rattle.lanes_keystream.proofs.Counter.{some-bytes, most-bytes, covered, starts-within, outByte, is-streamed}
+use Rattle.lanes_keystream.proofs.Counter.{some-bytes, most-bytes, covered, starts-within, is-streamed}
 
 -- each block of a batch has the one key
 pub repeated-key : (key keys : List ℕ) → length key ≡ keyBytes → length keys ≡ keyBytes * laneCount → Entries (λ j. getD key (j % keyBytes) 0) (keyBytes * laneCount) keys
@@ -42,12 +42,13 @@ pub record Turn (s first count m : ℕ) : Type 0 where
   pub early : first ≤ longestMessage
   pub next : s * first < s * first + s * count
 
-pub turn : (v s blocks first count m : ℕ) → s ≡ blockBytes v → blocks ≡ blockCount v m → first < blocks → 0 < count → count ≤ laneCount → m ≤ longestMessage → Turn s first count m
-turn v s blocks first count m e b q some few short =
+pub turn : (v s blocks first count m : ℕ) → s ≡ blockBytes v → blocks ≡ blockCount v m → m ≤ longestMessage → first < blocks
+    → (count ≤ blocks - first) × (count ≤ laneCount) × ((j : ℕ) → j < blocks - first → j < laneCount → j < count) → Turn s first count m
+turn v s blocks first count m e b short q w =
     let i : first * blockBytes v < m = starts-within v m first (subst (λ (n : ℕ). first < n) b q) in
     let one : first * 1 ≤ first * blockBytes v = mul-le-mul-left first (some-bytes v) in
-    let least : 1 * 1 ≤ blockBytes v * count = mul-le-mul (some-bytes v) some in
-    let most : blockBytes v * count ≤ 8 * laneCount = mul-le-mul (most-bytes v) few in
+    let least : 1 * 1 ≤ blockBytes v * count = mul-le-mul (some-bytes v) (w .2 0 (omega arith) (omega arith)) in
+    let most : blockBytes v * count ≤ wordBytes * laneCount = mul-le-mul (most-bytes v) (w .1) in
     record {
       inside = subst (λ (k : ℕ). k * first < m) (sym e) (subst (λ (n : ℕ). n < m) (mul-comm first (blockBytes v)) i);
       fits = subst (λ (k : ℕ). k * count ≤ batchLength) (sym e) most;

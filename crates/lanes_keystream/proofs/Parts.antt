@@ -5,6 +5,7 @@ use mathlib.Core.Bool.{Bool, true, false}
 use mathlib.Core.List.{List, _++_}
 use Prim.Native.Nat.{ℕ, _+_, _-_, _<_, _≤_}
 use native.Mathlib.Omega.{arith}
+use borrow.Author.Count.{below-more}
 use borrow.Author.Tests.{ltb-true, ltb-false}
 use lib.Dec.{ltb}
 use lib.ListN.{length, getD, take, drop, set, List·getD-append}
@@ -41,14 +42,12 @@ pub written-more : (from to : ℕ) (f : ℕ → ℕ) (old new : List ℕ) (x : �
 written-more from to f old new x l h w e =
     record {
       before = λ j q. getD-set-other new to j x 0 (λ s. omega arith) ∙ w .before j q;
-      there = λ j p q. go j p q (ltb j to) refl;
+      there = λ j p q.
+          below-more (λ (k : ℕ). from ≤ k → getD (set new to x) k 0 ≡ f k) to
+          (λ k r s. getD-set-other new to k x 0 (λ t. omega arith) ∙ w .there k s r)
+          (λ s. getD-set-same new to x 0 h ∙ e)
+          j q p;
     }
-  where
-    go : (j : ℕ) → from ≤ j → j < to + 1 → (b : Bool) → ltb j to ≡ b → getD (set new to x) j 0 ≡ f j
-    go j p q true d = getD-set-other new to j x 0 (λ s. let r = ltb-true j to d in omega arith) ∙ w .there j p (ltb-true j to d)
-    go j p q false d =
-        let r : j ≡ to = let s = ltb-false j to d in omega arith in
-        ap (λ (i : ℕ). getD (set new to x) i 0) r ∙ getD-set-same new to x 0 h ∙ e ∙ ap f (sym r)
 
 -- the first part of a part
 pub written-less : (from to less : ℕ) (f : ℕ → ℕ) (old new : List ℕ) → less ≤ to → Written from to f old new → Written from less f old new

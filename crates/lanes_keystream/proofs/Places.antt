@@ -34,32 +34,28 @@ low-bytes (suc m) (suc n) x (suc r) q h = low-bytes m n (x / 2 ^ 8) r (omega ari
 pub next-block : (s i : ℕ) → s * (i + 1) ≡ s * i + s
 next-block s i = omega arith
 
--- block i is written as a word of w bytes, of which the first s are its own
-pub word-on : (s w i k : ℕ) (x : ℕ → ℕ) (xs ys : List ℕ) → s ≤ w → s * i + w ≤ length xs → k ≡ w → ys ≡ bytesOf w (x i)
-    → Entries (byteOf s x) (s * i) xs → Entries (byteOf s x) (s * (i + 1)) (take (s * i) xs ++ (ys ++ drop k (drop (s * i) xs)))
-word-on s w i k x xs ys h room f e before =
-    rw (next-block s i, f)
-    (written-on (byteOf s x) (λ j. getD ys (j - s * i) 0) (s * i) (s * i + s) xs _
-    (written-less (s * i) (s * i + w) (s * i + s) _ xs _ (omega arith) (part-written (s * i) w xs ys room (ap length e ∙ length-bytes w (x i))))
+-- the part of block i is lent, and given back as ys: w entries, of which the first s are its own
+part-on : (s w i k : ℕ) (f : ℕ → ℕ) (xs ys : List ℕ) → s ≤ w → s * i + w ≤ length xs → k ≡ w → length ys ≡ w → ((r : ℕ) → r < s → getD ys r 0 ≡ f (s * i + r))
+    → Entries f (s * i) xs → Entries f (s * (i + 1)) (take (s * i) xs ++ (ys ++ drop k (drop (s * i) xs)))
+part-on s w i k f xs ys h room e l own before =
+    rw (next-block s i, e)
+    (written-on f (λ j. getD ys (j - s * i) 0) (s * i) (s * i + s) xs _
+    (written-less (s * i) (s * i + w) (s * i + s) _ xs _ (omega arith) (part-written (s * i) w xs ys room l))
     (λ j p q.
-    let r : j - s * i < s = omega arith in
     let d : s * i + (j - s * i) ≡ j = omega arith in
-    ap (λ (zs : List ℕ). getD zs (j - s * i) 0) e
-    ∙ low-bytes s w (x i) (j - s * i) r h
-    ∙ sym (at-place s i (j - s * i) r x)
-    ∙ ap (byteOf s x) d)
+    own (j - s * i) (omega arith) ∙ ap f d)
     before)
 
+-- block i is written as a word of w bytes
+pub word-on : (s w i k : ℕ) (x : ℕ → ℕ) (xs ys : List ℕ) → s ≤ w → s * i + w ≤ length xs → k ≡ w → ys ≡ bytesOf w (x i)
+    → Entries (byteOf s x) (s * i) xs → Entries (byteOf s x) (s * (i + 1)) (take (s * i) xs ++ (ys ++ drop k (drop (s * i) xs)))
+word-on s w i k x xs ys h room f e =
+    part-on s w i k (byteOf s x) xs ys h room f (ap length e ∙ length-bytes w (x i))
+    (λ r q. ap (λ (zs : List ℕ). getD zs r 0) e ∙ low-bytes s w (x i) r q h ∙ sym (at-place s i r q x))
+
 -- the key of block i is written
-pub key-on : (w i k : ℕ) (key xs ys : List ℕ) → 0 < w → length key ≡ w → w * i + w ≤ length xs → k ≡ w → ys ≡ key
+pub key-on : (w i k : ℕ) (key xs ys : List ℕ) → length key ≡ w → w * i + w ≤ length xs → k ≡ w → ys ≡ key
     → Entries (λ j. getD key (j % w) 0) (w * i) xs → Entries (λ j. getD key (j % w) 0) (w * (i + 1)) (take (w * i) xs ++ (ys ++ drop k (drop (w * i) xs)))
-key-on w i k key xs ys some l room f e before =
-    rw (next-block w i, f)
-    (written-on (λ j. getD key (j % w) 0) (λ j. getD ys (j - w * i) 0) (w * i) (w * i + w) xs _
-    (part-written (w * i) w xs ys room (ap length e ∙ l))
-    (λ j p q.
-    let r : j - w * i < w = omega arith in
-    let d : w * i + (j - w * i) ≡ j = omega arith in
-    ap (λ (zs : List ℕ). getD zs (j - w * i) 0) e
-    ∙ ap (λ (m : ℕ). getD key m 0) (sym (place-byte w i (j - w * i) r) ∙ ap (λ (m : ℕ). m % w) d))
-    before)
+key-on w i k key xs ys l room f e =
+    part-on w w i k (λ j. getD key (j % w) 0) xs ys (omega arith) room f (ap length e ∙ l)
+    (λ r q. ap (λ (zs : List ℕ). getD zs r 0) e ∙ ap (λ (m : ℕ). getD key m 0) (sym (place-byte w i r q)))

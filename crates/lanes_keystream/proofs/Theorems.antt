@@ -1,11 +1,12 @@
--- THEOREMS: what is claimed of every call that is not refused.
+-- THEOREMS: which calls are accepted, and what each of them gives.
 -- Assumes nothing.
 use mathlib.Core.Path.{_≡_, refl, sym, ap, ap₂, _∙_}
 use mathlib.Core.Bool.{false}
 use mathlib.Core.List.{List, [], _∷_, _++_}
-use Prim.Native.Nat.{ℕ, zero, suc, _+_, _*_, _^_, _<_, _≤_}
+use Prim.Native.Nat.{ℕ, zero, suc, _+_, _*_, _/_, _^_, _<_, _≤_}
+use native.Mathlib.Nat.{le-of-lt, mul-div-cancel}
 use native.Mathlib.Omega.{arith}
-use borrow.Author.Tests.{ltb-false, le-ltb, lt-leb, eq-eqb}
+use borrow.Author.Tests.{ltb-false, le-ltb, le-leb, lt-leb, eq-eqb}
 use lib.ListN.{length, take, drop, length-drop, take-append-drop}
 use lib.Seq.{length-take-le}
 use Rattle.katan.specs.Bit.{numberIn}
@@ -16,9 +17,9 @@ use Rattle.katan.proofs.Checked.{NoFault, all-passed, no-fault-found}
 use Rattle.katan_cipher.specs.Answers.{encryptAnswer}
 use Rattle.lanes.proofs.Faults.{none-of}
 use Rattle.lanes_keystream.specs.Stream.{blockBytes, blockCount, longestMessage, streamed, endCheck, streamChecks, streamOf}
-use Rattle.lanes_keystream.specs.Claim.{answerBytes, combined, oneAtATime, Accepted, EachBlockSingly, SecondPassRestores, StartsAlike}
+use Rattle.lanes_keystream.specs.Claim.{answerBytes, combined, oneSingly, oneAtATime, Accepted, SoundAccepted, EachBlockSingly, SecondPassRestores, StartsAlike}
 use Rattle.lanes_keystream.proofs.Faults.{answered}
-use Rattle.lanes_keystream.proofs.Counter.{fewer-blocks, covered, streamed-length, streamed-twice, streamed-take, streamed-first, streamed-rest}
+use Rattle.lanes_keystream.proofs.Counter.{some-bytes, starts-within, fewer-blocks, covered, streamed-length, streamed-twice, streamed-take, streamed-first, streamed-rest}
 
 -- ---- calls in which no check finds a fault
 
@@ -62,6 +63,10 @@ module _ (v : ℕ) (key : List ℕ) (known : variantCheck v .fault ≡ false) (w
   answer x h =
       no-fault-found (variantCheck v ∷ keyCheck key ∷ blockCheck v x ∷ []) (value (encryption v (numberIn key) x)) (known, (whole, (lt-leb _ _ h, tt)))
 
+  first-singly : (x : ℕ) (message : List ℕ) → x < 2 ^ widthOf v → take (blockBytes v) (streamed v (numberIn key) x message) ≡ oneSingly v key x message
+  first-singly x message h =
+      streamed-first v (numberIn key) x message ∙ ap (λ (o : Outcome ℕ). combined message (answerBytes v o)) (sym (answer x h))
+
   singly : (count x : ℕ) (message : List ℕ) → x + count ≤ 2 ^ widthOf v → length message ≤ count * blockBytes v → streamed v (numberIn key) x message ≡ oneAtATime v key x count message
   unfolding streamed oneAtATime
   singly zero x [] p q = refl
@@ -69,10 +74,29 @@ module _ (v : ℕ) (key : List ℕ) (known : variantCheck v .fault ≡ false) (w
   singly (suc count) x message p q =
       sym (take-append-drop (blockBytes v) (streamed v (numberIn key) x message))
       ∙ ap₂ _++_
-      (streamed-first v (numberIn key) x message ∙ ap (λ (o : Outcome ℕ). combined message (answerBytes v o)) (sym (answer x (omega arith))))
+      (first-singly x message (omega arith))
       (streamed-rest v (numberIn key) x message ∙ singly count (suc x) (drop (blockBytes v) message) (omega arith) (omega (arith, length-drop (blockBytes v) message)))
 
+-- where each byte's block is below 2^n, the blocks end there
+blocks-below : (v start m : ℕ) → start ≤ 2 ^ widthOf v → ((j : ℕ) → j < m → start + j / blockBytes v < 2 ^ widthOf v) → start + blockCount v m ≤ 2 ^ widthOf v
+blocks-below v start m s b = go (blockCount v m) refl
+  where
+    go : (count : ℕ) → blockCount v m ≡ count → start + count ≤ 2 ^ widthOf v
+    go zero e = omega (arith, s)
+    go (suc last) e =
+        let h = b (last * blockBytes v) (starts-within v m last (omega (arith, e))) in
+        omega (arith, h, mul-div-cancel last (some-bytes v))
+
 -- ---- the theorems
+
+-- THEOREM: a sound call is accepted
+pub sound-accepted : SoundAccepted
+sound-accepted v key start message out low high k o l s b =
+    let known : variantCheck v .fault ≡ false = rw (le-leb 1 v low, le-ltb 6 v high) in
+    let whole : keyCheck key .fault ≡ false = rw (eq-eqb (length key) 10 k) in
+    let sizes : sizeCheck (length message) out .fault ≡ false = rw (eq-eqb (length out) (length message) o) in
+    let end : endCheck v start message .fault ≡ false = rw (le-ltb _ _ (blocks-below v start (length message) (le-of-lt s) b), le-ltb longestMessage (length message) l) in
+    done v key start message out (known, (whole, (sizes, (end, (lt-leb _ _ s, tt))))) .0
 
 -- THEOREM: the output is what one-at-a-time encryption makes
 pub each-block-singly : EachBlockSingly

@@ -23,9 +23,12 @@ blockCount v m = (m + (blockBytes v - 1)) / blockBytes v
 abbrev pub streamByte : (v key start j : ℕ) → ℕ
 streamByte v key start j = getD (bytesOf (blockBytes v) (encryption v key (start + j / blockBytes v))) (j % blockBytes v) 0
 
--- the message combined with the stream by xor
+-- byte j of the output: the message's combined with the stream's by xor
+abbrev pub outByte : (v key start : ℕ) → List ℕ → (j : ℕ) → ℕ
+outByte v key start message j = xor (getD message j 0) (streamByte v key start j)
+
 unfoldable pub streamed : (v key start : ℕ) → List ℕ → List ℕ
-streamed v key start message = tabulate (λ j. xor (getD message j 0) (streamByte v key start j)) 0 (length message)
+streamed v key start message = tabulate (outByte v key start message) 0 (length message)
 
 -- the most bytes of a message
 abbrev pub longestMessage : ℕ

@@ -5,7 +5,7 @@ ghost use Prim.Native.Nat.{ℕ, _+_, _-_, _*_, _%_, _^_, _<_, _≤_};
 ghost use lib.ListN.{getD, length};
 ghost use Rattle.katan.specs.Bit.{xor, numberIn};
 ghost use Rattle.katan.specs.Checks.{variantCheck};
-ghost use Rattle.katan.specs.Sizes.{laneCount, keyBytes};
+ghost use Rattle.katan.specs.Sizes.{laneCount, wordBytes, keyBytes};
 ghost use Rattle.katan.specs.Variant.{widthOf};
 ghost use Rattle.katan.specs.Machine.{encryption};
 ghost use Rattle.katan.specs.inner.Within.{Entries};
@@ -14,11 +14,10 @@ ghost use Rattle.lanes_keystream.specs.Stream.{blockBytes, blockCount, l
 ghost use Rattle.lanes_keystream.specs.inner.Batch.{batchLength, Written, byteOf};
 use katan::KEY_BYTES;
 use katan::LANES;
+use katan::WORD_BYTES;
 use lanes::Direction;
 
-// The bytes of a word: a block is written as one.
-const WORD_BYTES: usize = 8;
-
+// A block is written as a word.
 const BATCH_LENGTH: usize = WORD_BYTES * LANES;
 
 const BATCH_KEYS: usize = KEY_BYTES * LANES;
@@ -58,7 +57,7 @@ fn put_numbers(start: u64, first: usize, count: usize, out: &mut [u64])
 
 // The blocks' bytes, low byte first. Each block is written as a word, and the next one over the bytes that are not its own.
 fn put_bytes(size: usize, blocks: &[u64], out: &mut [u8])
-    requires { ⌜ (1 ≤ size) × (size ≤ 8) × (length (now blocks) ≡ laneCount) × (length (now out) ≡ batchLength) ⌝ }
+    requires { ⌜ (1 ≤ size) × (size ≤ wordBytes) × (length (now blocks) ≡ laneCount) × (length (now out) ≡ batchLength) ⌝ }
     ensures { λ r. ⌜ Entries (byteOf size (λ i. getD (now (blocks .entry)) i 0)) (size * laneCount) (now (out .exit)) ⌝ }
 {
     for i in 0..LANES {
@@ -85,6 +84,7 @@ fn put_batch(
     let mut numbers = [0u64; LANES];
     put_numbers(start, first, count, &mut numbers);
     let mut encrypted = [0u64; LANES];
+    // No check finds a fault: 64 blocks, each below 2^n, and 64 keys.
     lanes::many(Direction::Encrypt, variant, keys, &numbers, &mut encrypted);
     put_bytes(size, &encrypted, out);
 }

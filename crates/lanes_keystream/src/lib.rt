@@ -1,8 +1,8 @@
 // A keystream: counter mode, 64 blocks at a time through the lanes, with one key.
 ghost use mathlib.Core.Path.{_≡_};
-ghost use Prim.Native.Nat.{_+_, _-_, _/_, _^_, _<_, _≤_};
+ghost use Prim.Native.Nat.{_+_, _-_, _/_, _^_, _≤_};
 ghost use lib.Dec.{ltb};
-ghost use Rattle.katan.specs.Sizes.{wordBits};
+ghost use Rattle.katan.specs.Sizes.{wordBits, wordBytes};
 ghost use Rattle.lanes.specs.Many.{manyOutcome};
 ghost use Rattle.lanes_keystream.specs.Stream.{longestMessage, streamAnswer, streamOf};
 use crate::batch::combine_all;
@@ -19,13 +19,14 @@ const LONGEST_MESSAGE: usize = 4096;
 
 // How many blocks of so many bytes a message takes: the last may be short.
 fn block_count(size: usize, length: usize) -> usize
-    requires { ⌜ (1 ≤ size) × (size ≤ 8) × (length ≤ longestMessage) ⌝ }
+    requires { ⌜ (1 ≤ size) × (size ≤ wordBytes) × (length ≤ longestMessage) ⌝ }
     ensures { λ r. ⌜ r ≡ (length + (size - 1)) / size ⌝ }
 {
     (length + (size - 1)) / size
 }
 
-// Whether the start plus the number of blocks exceeds 2^n. At n = 64 neither fits a word: what is left above the start is compared.
+// Whether the start plus the number of blocks exceeds 2^n. At n = 64 neither that sum nor 2^n need fit a word: the numbers left above the start are compared with
+// the blocks, both less one.
 fn past_the_end(n: usize, start: u64, blocks: u64) -> bool
     requires { ⌜ n ≤ wordBits ⌝ }
     ensures { λ r. ⌜ r ≡ ltb (2 ^ n) (start + blocks) ⌝ }

@@ -166,7 +166,8 @@ pub const LONGEST_DATA: usize = 4096;
 
 /// The data combined, by xor, with the keystream of counter mode: block i of the stream is the
 /// encryption of the number `start` + i, in n/8 bytes, low byte first. The last block may be short: its
-/// first bytes are taken. A second pass restores the data.
+/// first bytes are taken. A second pass restores the data, which has at most [`LONGEST_DATA`] bytes.
+/// Two messages under one key must not share a block of the stream.
 ///
 /// The checks are 1, 2, 14, 7, in this order.
 ///

@@ -84,15 +84,15 @@ fn compared(random: &mut Random, call: Call) -> u8 {
     got
 }
 
-/// Around batches and around the longest message, each from a random start.
+/// Around each batch and around the longest message, each from a random start.
 #[test]
 fn long_messages() {
     let mut random = generator("long_messages");
     for variant in 1..=6 {
         let batch = BATCH * block_length(variant);
-        let batches = [1, 2, 3, LONGEST_DATA / batch].map(|count| count * batch);
+        let batches = (1..=LONGEST_DATA / batch).map(|count| count * batch);
         let around = |length| length - 1..=length + 1;
-        for length in batches.into_iter().chain([LONGEST_DATA]).flat_map(around) {
+        for length in batches.chain([LONGEST_DATA]).flat_map(around) {
             let start = random.bits(width(variant));
             compared(&mut random, sound(variant, start, length));
         }

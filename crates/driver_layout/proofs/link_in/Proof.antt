@@ -4,7 +4,8 @@ use mathlib.Core.Path.{ap, _∙_}
 use native.Mathlib.Omega.{arith}
 use Rattle.bench_record.specs.Codec.{recordIn}
 use Rattle.bench_record.proofs.Parts.{part-of, number-below}
-use Rattle.driver_layout.specs.Layout.{wordBytes, numberBytes, lastStart, totalStart, linkIn}
+use Rattle.katan.specs.Sizes.{wordBytes}
+use Rattle.driver_layout.specs.Layout.{numberBytes, lastStart, totalStart, linkIn}
 use Rattle.katan.proofs.Numbers.{bytes-below}
 use borrow.Author.Needs.{needs}
 use Rattle.driver_layout.proofs.link_in.Statement.{statement}

@@ -4,8 +4,8 @@ use mathlib.Core.Path.{ap, _∙_}
 use native.Mathlib.Omega.{arith}
 use Rattle.bench_record.proofs.Parts.{part-of}
 use Rattle.katan.specs.Key.{keyOf}
-use Rattle.katan.specs.Sizes.{keyBytes}
-use Rattle.driver_layout.specs.Layout.{wordBytes, keyStart, registersStart, loadedIn}
+use Rattle.katan.specs.Sizes.{wordBytes, keyBytes}
+use Rattle.driver_layout.specs.Layout.{keyStart, registersStart, loadedIn}
 use borrow.Author.Needs.{needs}
 use Rattle.driver_layout.proofs.loaded_in.Statement.{statement}
 use Rattle.driver_layout.proofs.loaded_in.Tie as tie

@@ -4,10 +4,9 @@ use mathlib.Core.Path.{ap, ap₂, sym, _∙_}
 use mathlib.Core.List.{List, _++_}
 use Prim.Native.Nat.{ℕ, _-_}
 use lib.ListN.{length}
-use Rattle.katan.specs.Sizes.{keyBytes}
+use Rattle.katan.specs.Sizes.{wordBytes, keyBytes}
 use Rattle.katan.proofs.Numbers.{length-bytes, two-numbers}
 use Rattle.katan_numbers.proofs.Written.{in-bytes}
-use Rattle.driver_layout.specs.Layout.{wordBytes}
 use Rattle.driver_layout.proofs.Turns.{two-parts}
 use borrow.Author.Needs.{needs}
 use Rattle.driver_layout.proofs.put_key.Statement.{statement}

@@ -5,8 +5,8 @@ use mathlib.Core.List.{List, _++_}
 use Prim.Native.Nat.{ℕ}
 use lib.ListN.{length}
 use Rattle.katan.specs.Key.{keyNumber}
-use Rattle.katan.specs.Sizes.{keyBytes}
-use Rattle.driver_layout.specs.Layout.{wordBytes, keyStart, loadedBytes}
+use Rattle.katan.specs.Sizes.{wordBytes, keyBytes}
+use Rattle.driver_layout.specs.Layout.{keyStart, loadedBytes}
 use Rattle.katan.proofs.Numbers.{length-bytes}
 use Rattle.katan_numbers.proofs.Written.{in-bytes}
 use Rattle.driver_layout.proofs.Turns.{three-parts}

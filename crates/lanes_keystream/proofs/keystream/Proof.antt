@@ -51,7 +51,7 @@ returns-3 c =
     let a = c .before .before .before .before .before .before .before .before .before .before .args in
     let of = c .before .before .before .before .before .before .row-of in
     let is = row-found (a .variant) (of .result) _ (of .ensures) (c .before .before .before .before .row .given .1) in
-    refuses-long (a .variant) (a .key .now) (a .start) (a .message .now) (a .out .now) (is .no-fault) (c .before .before .if1 .left) (c .before .if2 .left) (c .if3 .taken)
+    refuses-long (a .variant) (a .key .now) (a .start) (a .message .now) (a .out .now) (is .no-fault) (c .before .before .if1 .left) (c .before .if2 .left) (omega (arith, c .if3 .taken))
 
 block-count-requires : tie.Need-block-count-requires
 block-count-requires c κs =
@@ -60,7 +60,7 @@ block-count-requires c κs =
     let is = row-found (a .variant) (of .result) _ (of .ensures) (c .before .before .before .before .before .row .given .1) in
     let e : c .before .before .before .before .before .row .given .0 .0 .n ≡ widthOf (a .variant) = ap (λ (w : Row). w .n) (is .is-row) in
     let s : c .before .before .before .before .before .row .given .0 .0 .n / 8 ≡ blockBytes (a .variant) = ap (λ (w : ℕ). w / 8) e in
-    (subst (λ (k : ℕ). 1 ≤ k) (sym s) (some-bytes (a .variant)), subst (λ (k : ℕ). k ≤ 8) (sym s) (most-bytes (a .variant)), c .before .if3 .left)
+    (subst (λ (k : ℕ). 1 ≤ k) (sym s) (some-bytes (a .variant)), subst (λ (k : ℕ). k ≤ 8) (sym s) (most-bytes (a .variant)), omega (arith, c .before .if3 .left))
 
 past-the-end-requires : tie.Need-past-the-end-requires
 past-the-end-requires c κs =
@@ -76,7 +76,7 @@ returns-4 c =
     let of = c .before .before .before .before .before .before .before .before .before .before .row-of in
     let is = row-found (a .variant) (of .result) _ (of .ensures) (c .before .before .before .before .before .before .before .before .row .given .1) in
     let e : c .before .before .before .before .before .before .before .before .row .given .0 .0 .n ≡ widthOf (a .variant) = ap (λ (w : Row). w .n) (is .is-row) in
-    refuses-end (a .variant) (a .key .now) (a .start) (a .message .now) (a .out .now) (is .no-fault) (c .before .before .before .before .before .before .if1 .left) (c .before .before .before .before .before .if2 .left) (c .before .before .before .before .if3 .left) (end (a .variant) (a .start) (length (a .message .now)) e (c .before .before .block-count .ensures) (c .before .past-the-end .ensures) ∙ c .if4 .taken)
+    refuses-end (a .variant) (a .key .now) (a .start) (a .message .now) (a .out .now) (is .no-fault) (c .before .before .before .before .before .before .if1 .left) (c .before .before .before .before .before .if2 .left) (end (a .variant) (a .start) (length (a .message .now)) e (c .before .before .block-count .ensures) (c .before .past-the-end .ensures) ∙ c .if4 .taken)
 
 too-wide-requires : tie.Need-too-wide-requires
 too-wide-requires c κs = search needs

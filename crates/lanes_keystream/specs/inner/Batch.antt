@@ -5,11 +5,11 @@ use mathlib.Core.List.{List}
 use mathlib.Core.Path.{_≡_}
 use lib.ListN.{getD}
 use Rattle.katan.specs.Bit.{bytesOf}
-use Rattle.katan.specs.Sizes.{laneCount}
+use Rattle.katan.specs.Sizes.{laneCount, wordBytes}
 
 -- the bytes that a batch is given: each block has a word's
 abbrev pub batchLength : ℕ
-batchLength = 8 * laneCount
+batchLength = wordBytes * laneCount
 
 -- entries `from` to `to` - 1 of a list are written by a rule, and those before them are as they were
 pub record Written (from to : ℕ) (f : ℕ → ℕ) (old new : List ℕ) : Type 0 where

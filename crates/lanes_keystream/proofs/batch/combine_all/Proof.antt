@@ -50,7 +50,7 @@ put-batch-requires c κs =
     let l = c .before .before .before .before .loop in
     let d = c .before .before .before .before .before .before .before .before .before in
     let a = d .args in
-    let t = turn (a .variant) (a .size) (a .blocks) (l .first) (w .result) (length (a .message .now)) (d .pre .0 .1) (d .pre .0 .2) (omega arith) (w .ensures .2 0 (omega arith) (omega arith)) (w .ensures .1) (d .pre .1 .1) in
+    let t = turn (a .variant) (a .size) (a .blocks) (l .first) (w .result) (length (a .message .now)) (d .pre .0 .1) (d .pre .0 .2) (d .pre .1 .1) (omega arith) (w .ensures) in
     ((d .pre .0 .0, d .pre .0 .1, search needs, l .inv .1), (w .ensures .1, omega (arith, w .ensures .0, d .pre .0 .3), t .early))
 
 mul-at : tie.Need-mul-at Inv-loop μ-loop
@@ -59,7 +59,7 @@ mul-at c =
     let l = c .before .before .before .before .before .before .loop in
     let d = c .before .before .before .before .before .before .before .before .before .before .before in
     let a = d .args in
-    let t = turn (a .variant) (a .size) (a .blocks) (l .first) (w .result) (length (a .message .now)) (d .pre .0 .1) (d .pre .0 .2) (omega arith) (w .ensures .2 0 (omega arith) (omega arith)) (w .ensures .1) (d .pre .1 .1) in
+    let t = turn (a .variant) (a .size) (a .blocks) (l .first) (w .result) (length (a .message .now)) (d .pre .0 .1) (d .pre .0 .2) (d .pre .1 .1) (omega arith) (w .ensures) in
     record { fits = omega (arith, t .inside, t .fits, d .pre .1 .1) }
 
 mul-smaller : tie.Need-mul-smaller Inv-loop μ-loop
@@ -68,7 +68,7 @@ mul-smaller c =
     let l = c .before .before .before .before .before .before .loop in
     let d = c .before .before .before .before .before .before .before .before .before .before .before in
     let a = d .args in
-    let t = turn (a .variant) (a .size) (a .blocks) (l .first) (w .result) (length (a .message .now)) (d .pre .0 .1) (d .pre .0 .2) (omega arith) (w .ensures .2 0 (omega arith) (omega arith)) (w .ensures .1) (d .pre .1 .1) in
+    let t = turn (a .variant) (a .size) (a .blocks) (l .first) (w .result) (length (a .message .now)) (d .pre .0 .1) (d .pre .0 .2) (d .pre .1 .1) (omega arith) (w .ensures) in
     record { fits = omega (arith, t .inside, t .fits, d .pre .1 .1) }
 
 add-smaller : tie.Need-add-smaller Inv-loop μ-loop
@@ -77,7 +77,7 @@ add-smaller c =
     let l = c .before .before .before .before .before .before .loop in
     let d = c .before .before .before .before .before .before .before .before .before .before .before in
     let a = d .args in
-    let t = turn (a .variant) (a .size) (a .blocks) (l .first) (w .result) (length (a .message .now)) (d .pre .0 .1) (d .pre .0 .2) (omega arith) (w .ensures .2 0 (omega arith) (omega arith)) (w .ensures .1) (d .pre .1 .1) in
+    let t = turn (a .variant) (a .size) (a .blocks) (l .first) (w .result) (length (a .message .now)) (d .pre .0 .1) (d .pre .0 .2) (d .pre .1 .1) (omega arith) (w .ensures) in
     record { fits = omega (arith, t .inside, t .fits, d .pre .1 .1) }
 
 smaller-requires-2 : tie.Need-smaller-requires-2 Inv-loop μ-loop
@@ -94,7 +94,7 @@ combine-requires c κs =
     let l = c .before .before .before .before .before .before .before .before .before .loop in
     let d = c .before .before .before .before .before .before .before .before .before .before .before .before .before .before in
     let a = d .args in
-    let t = turn (a .variant) (a .size) (a .blocks) (l .first) (w .result) (length (a .message .now)) (d .pre .0 .1) (d .pre .0 .2) (omega arith) (w .ensures .2 0 (omega arith) (omega arith)) (w .ensures .1) (d .pre .1 .1) in
+    let t = turn (a .variant) (a .size) (a .blocks) (l .first) (w .result) (length (a .message .now)) (d .pre .0 .1) (d .pre .0 .2) (d .pre .1 .1) (omega arith) (w .ensures) in
     (le-of-lt (end .ensures .2 (a .size * l .first) (t .next) (t .inside)), end .ensures .1, omega (arith, end .ensures .1, l .inv .0), omega (arith, end .ensures .0, t .fits))
 
 add-first : tie.Need-add-first Inv-loop μ-loop

@@ -20,7 +20,7 @@ slice-aggregate-put-numbers c = search needs
 put-numbers-requires : tie.Need-put-numbers-requires
 put-numbers-requires c κs =
     let d = c .before .before .before in
-    (d .pre .1 .0, omega (arith, width-word (d .args .variant), d .pre .1 .1), d .pre .1 .2)
+    (d .pre .1 .0, omega (arith, width-word (d .args .variant), d .pre .1 .1), omega (arith, d .pre .1 .2))
 
 slice-aggregate-many : tie.Need-slice-aggregate-many
 slice-aggregate-many c = search needs

@@ -54,7 +54,7 @@ loop-again c =
     let at = keyBytes * l .i in
     let n : at + keyBytes - at ≡ keyBytes = omega arith in
     let m : length (w .put-key .last .1 .0) ≡ keyBytes = omega arith in
-    (same-len-mid at (at + keyBytes - at) (l .keys) (w .put-key .last .1 .0) (omega arith) ∙ l .inv .0, omega arith, key-on keyBytes (l .i) (at + keyBytes - at) key (l .keys) (w .put-key .last .1 .0) (omega arith) (d .pre) (omega arith) n (w .put-key .ensures) (l .inv .2))
+    (same-len-mid at (at + keyBytes - at) (l .keys) (w .put-key .last .1 .0) (omega arith) ∙ l .inv .0, omega arith, key-on keyBytes (l .i) (at + keyBytes - at) key (l .keys) (w .put-key .last .1 .0) (d .pre) (omega arith) n (w .put-key .ensures) (l .inv .2))
 
 returns : tie.Need-returns Inv-loop μ-loop
 returns c = λ j q. c .before .loop .inv .2 j (omega arith)
