@@ -12,7 +12,7 @@ use Rattle.katan.specs.Variant.{widthOf}
 use Rattle.katan.specs.declared.Refusal.{Refusal}
 use Rattle.katan.specs.declared.Refusal.the-variants.{BadVariant, BadLength, BadKind, FieldNotZero, BadLane, BadPosition, BadBlock, EmptyMask, OutOfTurn, OtherBytes, EmptyLane, BadRate, BadForm, BeyondEnd}
 
--- the number of each refusal
+-- the number of each refusal: 14 is document 02's
 abbrev pub numberOf : Refusal → ℕ
 numberOf BadVariant = 1
 numberOf BadLength = 2

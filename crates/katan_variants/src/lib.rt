@@ -15,7 +15,7 @@ use katan::RowAnswer;
 
 mod constants;
 
-// Document 01's number of a refusal.
+// The number of a refusal: document 01's, and 14 document 02's.
 pub fn refusal_number(r: Refusal) -> u8
     ensures { λ k. ⌜ k ≡ numberOf r ⌝ }
 {
