@@ -71,15 +71,14 @@ module _ (v : ℕ) (key : List ℕ) (start : ℕ) (message out : List ℕ) where
         pub refuses-end : ltb (2 ^ widthOf v) (start + blockCount v (length message)) ≡ true → Promised (refused 14) out
         refuses-end f = refuses-14 (rw f)
 
-        module _ (short : length message ≤ longestMessage) where
-          module _ (within : ltb (2 ^ widthOf v) (start + blockCount v (length message)) ≡ false) where
-            end-passes : endCheck v start message .fault ≡ false
-            end-passes = rw (within, le-ltb longestMessage (length message) short)
+        module _ (short : length message ≤ longestMessage) (within : ltb (2 ^ widthOf v) (start + blockCount v (length message)) ≡ false) where
+          end-passes : endCheck v start message .fault ≡ false
+          end-passes = rw (within, le-ltb longestMessage (length message) short)
 
-            pub refuses-start : blockCheck v start .fault ≡ true → Promised (refused 7) out
-            refuses-start =
-                refuses (variantCheck v ∷ keyCheck key ∷ sizeCheck (length message) out ∷ endCheck v start message ∷ []) (blockCheck v start) _ refl
-                (known, (key-passes, (size-passes, (end-passes, tt))))
+          pub refuses-start : blockCheck v start .fault ≡ true → Promised (refused 7) out
+          refuses-start =
+              refuses (variantCheck v ∷ keyCheck key ∷ sizeCheck (length message) out ∷ endCheck v start message ∷ []) (blockCheck v start) _ refl
+              (known, (key-passes, (size-passes, (end-passes, tt))))
 
-            pub finishes : blockCheck v start .fault ≡ false → (new : List ℕ) → new ≡ streamed v (numberIn key) start message → Promised (value tt) new
-            finishes f new e = rw e (answered (known, (key-passes, (size-passes, (end-passes, (f, tt))))))
+          pub finishes : blockCheck v start .fault ≡ false → (new : List ℕ) → new ≡ streamed v (numberIn key) start message → Promised (value tt) new
+          finishes f new e = rw e (answered (known, (key-passes, (size-passes, (end-passes, (f, tt))))))

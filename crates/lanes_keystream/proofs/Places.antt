@@ -14,24 +14,24 @@ use Rattle.lanes_keystream.proofs.Parts.{written-on, part-written, writ
 
 -- byte r of block i
 module _ (s i r : ℕ) (q : r < s) where
-  pub place-block : (s * i + r) / s ≡ i
+  place-block : (s * i + r) / s ≡ i
   place-block = mul-add-div {m = s} (omega arith) i r ∙ ap (λ (x : ℕ). i + x) (div-eq-of-lt q) ∙ add-zero i
 
   pub place-byte : (s * i + r) % s ≡ r
   place-byte = mul-add-mod-self-left s i r ∙ mod-eq-of-lt q
 
-  pub at-place : (x : ℕ → ℕ) → byteOf s x (s * i + r) ≡ getD (bytesOf s (x i)) r 0
+  at-place : (x : ℕ → ℕ) → byteOf s x (s * i + r) ≡ getD (bytesOf s (x i)) r 0
   at-place x = ap₂ (λ (k l : ℕ). getD (bytesOf s (x k)) l 0) place-block place-byte
 
 -- the low bytes of a number are the same in how many it is written
-pub low-bytes : (m n x r : ℕ) → r < m → m ≤ n → getD (bytesOf n x) r 0 ≡ getD (bytesOf m x) r 0
+low-bytes : (m n x r : ℕ) → r < m → m ≤ n → getD (bytesOf n x) r 0 ≡ getD (bytesOf m x) r 0
 unfolding bytesOf
 low-bytes zero n x r q h = absurd (omega arith)
 low-bytes (suc m) zero x r q h = absurd (omega arith)
 low-bytes (suc m) (suc n) x zero q h = refl
 low-bytes (suc m) (suc n) x (suc r) q h = low-bytes m n (x / 2 ^ 8) r (omega arith) (omega arith)
 
-pub next-block : (s i : ℕ) → s * (i + 1) ≡ s * i + s
+next-block : (s i : ℕ) → s * (i + 1) ≡ s * i + s
 next-block s i = omega arith
 
 -- the part of block i is lent, and given back as ys: w entries, of which the first s are its own

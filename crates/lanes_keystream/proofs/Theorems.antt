@@ -6,7 +6,7 @@ use mathlib.Core.List.{List, [], _∷_, _++_}
 use Prim.Native.Nat.{ℕ, zero, suc, _+_, _*_, _/_, _^_, _<_, _≤_}
 use native.Mathlib.Nat.{le-of-lt, mul-div-cancel}
 use native.Mathlib.Omega.{arith}
-use borrow.Author.Tests.{ltb-false, le-ltb, le-leb, lt-leb, eq-eqb}
+use borrow.Author.Tests.{ltb-false, le-ltb, lt-leb, eq-eqb}
 use lib.ListN.{length, take, drop, length-drop, take-append-drop}
 use lib.Seq.{length-take-le}
 use Rattle.katan.specs.Bit.{numberIn}
@@ -14,11 +14,12 @@ use Rattle.katan.specs.Checks.{Outcome, value, sizeCheck, variantCheck, keyChec
 use Rattle.katan.specs.Machine.{encryption}
 use Rattle.katan.specs.Variant.{widthOf}
 use Rattle.katan.proofs.Checked.{NoFault, all-passed, no-fault-found}
+use Rattle.katan.proofs.Variants.{variant-sound}
 use Rattle.katan_cipher.specs.Answers.{encryptAnswer}
 use Rattle.lanes.proofs.Faults.{none-of}
 use Rattle.lanes_keystream.specs.Stream.{blockBytes, blockCount, longestMessage, streamed, endCheck, streamChecks, streamOf}
 use Rattle.lanes_keystream.specs.Claim.{answerBytes, combined, oneSingly, oneAtATime, Accepted, SoundAccepted, EachBlockSingly, SecondPassRestores, StartsAlike}
-use Rattle.lanes_keystream.proofs.Faults.{answered}
+use Rattle.lanes_keystream.proofs.Faults.{answered, finishes}
 use Rattle.lanes_keystream.proofs.Counter.{some-bytes, starts-within, fewer-blocks, covered, streamed-length, streamed-twice, streamed-take, streamed-first, streamed-rest}
 
 -- ---- calls in which no check finds a fault
@@ -92,11 +93,8 @@ blocks-below v start m s b = go (blockCount v m) refl
 -- THEOREM: a sound call is accepted
 pub sound-accepted : SoundAccepted
 sound-accepted v key start message out low high k o l s b =
-    let known : variantCheck v .fault ≡ false = rw (le-leb 1 v low, le-ltb 6 v high) in
-    let whole : keyCheck key .fault ≡ false = rw (eq-eqb (length key) 10 k) in
-    let sizes : sizeCheck (length message) out .fault ≡ false = rw (eq-eqb (length out) (length message) o) in
-    let end : endCheck v start message .fault ≡ false = rw (le-ltb _ _ (blocks-below v start (length message) (le-of-lt s) b), le-ltb longestMessage (length message) l) in
-    done v key start message out (known, (whole, (sizes, (end, (lt-leb _ _ s, tt))))) .0
+    let within = le-ltb (2 ^ widthOf v) (start + blockCount v (length message)) (blocks-below v start (length message) (le-of-lt s) b) in
+    sym (finishes v key start message out (variant-sound v low high) k o l within (lt-leb (2 ^ widthOf v) start s) _ refl .0)
 
 -- THEOREM: the output is what one-at-a-time encryption makes
 pub each-block-singly : EachBlockSingly
