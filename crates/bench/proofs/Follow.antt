@@ -1,6 +1,6 @@
 -- A lane follows a machine, slots follow machines one by one, and a counted record keeps it so.
 -- Assumes nothing.
-use mathlib.Core.Path.{_≡_, refl, sym, ap₂, _∙_}
+use mathlib.Core.Path.{_≡_, refl, sym, ap, ap₂, _∙_}
 use mathlib.Core.Bool.{Bool, true, false}
 use mathlib.Core.List.{List, [], _∷_, map}
 use Prim.Native.Nat.{ℕ, zero, suc, _+_, _/_, _^_, _<_, _≤_}
@@ -11,9 +11,11 @@ use lib.ListN.{getD, set, replicate}
 use borrow.Author.Tests.{ltb-false, le-ltb, lt-leb, eq-eqb, ne-eqb}
 use Rattle.katan.specs.Bit.{bit, pick}
 use Rattle.katan.specs.Counter.{rounds}
-use Rattle.katan.specs.Key.{keyNumber}
+use Rattle.katan.specs.Key.{keyNumber, keyOf}
 use Rattle.katan.specs.Variant.{widthOf}
+use Rattle.katan.specs.declared.Key.{Key}
 use Rattle.katan.specs.Machine.{registersAt}
+use Rattle.katan.proofs.KeyNumbers.{number-of-key}
 use Rattle.katan.proofs.Positions.{at-in, at-load, at-join}
 use Rattle.bench_record.specs.declared.Record.{Record}
 use Rattle.bench_record.specs.Fields.{Kind, load, forward, back, clear, other, kind, namesAs, names}
@@ -33,7 +35,7 @@ half m i = rw (div-div-eq-div-mul, ← pow-suc)
 
 module _ (v : ℕ) where
   pub record Holds (h : Loaded) (k b q p : ℕ) : Type 0 where
-    pub same-key : keyNumber (h .key) ≡ k
+    pub same-key : h .key ≡ keyOf k
     pub same-place : h .position .0 ≡ p
     pub same-state : h .registers ≡ registersAt v k q b p
     pub in-range : p ≤ rounds
@@ -74,6 +76,32 @@ module _ (v : ℕ) where
   view-at (s ∷ ss) (m ∷ ms) f zero = same-view (s .lane) m (f .0)
   view-at (s ∷ ss) (m ∷ ms) f (suc i) = view-at ss ms (f .1) i
 
+  -- ---- and lanes that follow the same machine are the same, keys included
+
+  abbrev holding : Key → (position registers : ℕ) → Loaded
+  holding key p x = record { key = key; position = record { 0 = p }; registers = x }
+
+  held-is : (h : Loaded) (k b q p : ℕ) → Holds h k b q p → h ≡ holding (keyOf k) p (registersAt v k q b p)
+  held-is h k b q p f = ap₂ (λ (key : Key) (place : ℕ). holding key place (h .registers)) (f .same-key) (f .same-place) ∙ ap (holding (keyOf k) p) (f .same-state)
+
+  same-lane : (l o : Lane) (m : Machine) → Follows l m → Follows o m → l ≡ o
+  same-lane Empty Empty m f e = refl
+  same-lane Empty (Held g) empty f e = absurd e
+  same-lane Empty (Held g) (loaded k b q p) f e = absurd f
+  same-lane (Held h) o empty f e = absurd f
+  same-lane (Held h) Empty (loaded k b q p) f e = absurd e
+  same-lane (Held h) (Held g) (loaded k b q p) f e = ap Held (held-is h k b q p f ∙ sym (held-is g k b q p e))
+
+  pub same-slots : (ss ts : List Slot) (ms : List Machine) → AllFollow ss ms → AllFollow ts ms → ss ≡ ts
+  same-slots [] [] [] f e = refl
+  same-slots [] [] (m ∷ ms) f e = absurd f
+  same-slots [] (t ∷ ts) [] f e = absurd e
+  same-slots [] (t ∷ ts) (m ∷ ms) f e = absurd f
+  same-slots (s ∷ ss) ts [] f e = absurd f
+  same-slots (s ∷ ss) [] (m ∷ ms) f e = absurd e
+  same-slots (s ∷ ss) (t ∷ ts) (m ∷ ms) f e =
+      ap₂ (λ (l : Lane) (rest : List Slot). record { lane = l } ∷ rest) (same-lane (s .lane) (t .lane) m (f .0) (e .0)) (same-slots ss ts ms (f .1) (e .1))
+
   -- ---- and never meets 1
 
   no-fault : (l : Lane) (m : Machine) → Follows l m → laneFault v (machineView v m) ≡ false
@@ -99,7 +127,7 @@ module _ (v : ℕ) where
   carried : (h : Loaded) (k b q p to at : ℕ) → Holds h k b q p → to ≡ at → at ≤ rounds → Holds (loadedAt v h to) k b q at
   unfolding loadedAt
   carried h k b q p to at f e le =
-      record { same-key = f .same-key; same-place = e; same-state = cc (at-join v k q b p at (f .small)); in-range = le; small = f .small }
+      record { same-key = f .same-key; same-place = e; same-state = cc (at-join v k q b p at (f .small), number-of-key k); in-range = le; small = f .small }
 
   module _ (r : Record) where
     step-forward : (l : Lane) (m : Machine) → Follows l m → Follows (forwardLane v (r .count) l) (stepAs forward r m)
@@ -189,11 +217,12 @@ module _ (v : ℕ) where
     load-step (y ∷ ss) (m ∷ ms) i (suc k) e h =
         rw (named i, ne-eqb i (r .lane) (λ q. omega arith)) (h .0, load-step ss ms (suc i) k (omega arith) (h .1))
 
-  load-holds : (r : Record) → r .count ≤ rounds → r .block < 2 ^ widthOf v → Holds (loadedBy r) (keyNumber (r .key)) (r .block) (r .count) (r .count)
+  load-holds : (r : Record) → r .key ≡ keyOf (keyNumber (r .key)) → r .count ≤ rounds → r .block < 2 ^ widthOf v
+      → Holds (loadedBy r) (keyNumber (r .key)) (r .block) (r .count) (r .count)
   unfolding loadedBy
-  load-holds r c b =
+  load-holds r k c b =
       record {
-        same-key = refl;
+        same-key = k;
         same-place = refl;
         same-state = sym (at-load v (keyNumber (r .key)) (r .count) (r .block));
         in-range = c;
@@ -203,14 +232,15 @@ module _ (v : ℕ) where
   -- ---- a counted record
 
   module _ (r : Record) (ss : List Slot) (ms : List Machine) (h : AllFollow ss ms) where
-    pub counted-slots : (k : Kind) → kind r ≡ k → wrongCount k (r .count) ≡ false → r .block < 2 ^ widthOf v → AllFollow (slotsAs v k r ss) (stepAll r 0 ms)
+    pub counted-slots : (k : Kind) → kind r ≡ k → r .key ≡ keyOf (keyNumber (r .key)) → wrongCount k (r .count) ≡ false → r .block < 2 ^ widthOf v
+        → AllFollow (slotsAs v k r ss) (stepAll r 0 ms)
     unfolding slotsAs namesAs stepAs wrongCount
-    counted-slots load e six b =
-        load-step r (record { lane = Held (loadedBy r) }) (λ m. rw e (load-holds r (ltb-false rounds (r .count) six) b)) (λ i. rw e) ss ms 0 (r .lane) (zero-add (r .lane)) h
-    counted-slots forward e six b = rw div-one at (mask-steps r (λ i. rw e) (forwardLane v (r .count)) (λ l m f. rw e (step-forward _ l m f)) ss ms 0 h)
-    counted-slots back e six b = rw div-one at (mask-steps r (λ i. rw e) (backLane v (r .count)) (λ l m f. rw e (step-back _ l m f)) ss ms 0 h)
-    counted-slots clear e six b = rw div-one at (mask-steps r (λ i. rw e) (λ l. Empty) (λ l m f. rw e (step-clear r l m f)) ss ms 0 h)
-    counted-slots other e six b = unnamed r ss ms 0 (λ i le. rw e) h
+    counted-slots load e own six b =
+        load-step r (record { lane = Held (loadedBy r) }) (λ m. rw e (load-holds r own (ltb-false rounds (r .count) six) b)) (λ i. rw e) ss ms 0 (r .lane) (zero-add (r .lane)) h
+    counted-slots forward e own six b = rw div-one at (mask-steps r (λ i. rw e) (forwardLane v (r .count)) (λ l m f. rw e (step-forward _ l m f)) ss ms 0 h)
+    counted-slots back e own six b = rw div-one at (mask-steps r (λ i. rw e) (backLane v (r .count)) (λ l m f. rw e (step-back _ l m f)) ss ms 0 h)
+    counted-slots clear e own six b = rw div-one at (mask-steps r (λ i. rw e) (λ l. Empty) (λ l m f. rw e (step-clear r l m f)) ss ms 0 h)
+    counted-slots other e own six b = unnamed r ss ms 0 (λ i le. rw e) h
 
     pub counted-total : (k : Kind) → kind r ≡ k → totalAs k r ss ≡ totalOf r 0 ms
     unfolding totalAs namesAs movedAs

@@ -1,16 +1,16 @@
 -- The laws of every list: what one more arrival is answered and leaves, and that every lane can be loaded and moves.
 -- Assumes nothing.
 use mathlib.Core.Path.{_≡_, refl, sym, ap, ap₂, subst, _∙_}
-use mathlib.Core.Bool.{Bool, true, false, _||_}
+use mathlib.Core.Bool.{Bool, true, false}
 use mathlib.Core.List.{List, [], _∷_, _++_, append-assoc, append-cancel-left, List·Memᴰ, List·Memᴰ·head, List·Memᴰ·cases-cons, List·Memᴰ·not-nil, Memᴰ·append-left, Memᴰ·append-right}
 use mathlib.Core.Logic.{_⊎_, inl, inr}
 use Prim.Native.Nat.{ℕ, _+_, _-_, _%_, _^_, _<_, _≤_, min}
 use native.Mathlib.Nat.{div-self}
 use native.Mathlib.Omega.{arith}
-use lib.Dec.{leb, ltb, eqb}
+use lib.Dec.{eqb}
 use lib.ListN.{length, getD}
-use borrow.Author.Tests.{le-ltb, lt-leb, eq-eqb, ne-eqb}
-use lib.Pow.{pow-pos, pow-mono, pow-lt}
+use borrow.Author.Tests.{eq-eqb, ne-eqb}
+use lib.Pow.{pow-pos}
 use Rattle.katan.specs.Bit.{bit, pick}
 use Rattle.katan.specs.Counter.{rounds}
 use Rattle.katan.specs.Key.{keyLength, keyOf}
@@ -25,8 +25,7 @@ use Rattle.katan.proofs.Undo.{sound}
 use Rattle.bench_record.specs.declared.Record.{Record}
 use Rattle.bench_record.specs.Fields.{Kind, forward, back, kindByte, kindOf, namesAs, recordLength, decode}
 use Rattle.bench_record.specs.Codec.{encode, loadRecord, moveRecord}
-use Rattle.bench_record.specs.Checks.{unknown, unused, wrongCount, noneNamed, fieldChecks}
-use Rattle.bench_record.proofs.Codec.{every-record}
+use Rattle.bench_record.specs.Checks.{fieldChecks}
 use Rattle.bench_record.proofs.Same.{same-self}
 use Rattle.bench.specs.Machine.{Machine, empty, loaded, stepAs, machineStep, totalOf}
 use Rattle.bench.specs.Calls.{Call, arrival, reading, done, again, Answer, stateAfter, answersTo}
@@ -37,6 +36,7 @@ use Rattle.bench.specs.Laws.{SoundRecord, FirstFault, andArrival, Counts
 use Rattle.bench.proofs.Calls.{state-more, answers-more}
 use Rattle.bench.proofs.Turns.{counts-next}
 use Rattle.bench.proofs.Lists.{every-list}
+use Rattle.bench.proofs.Written.{load-back, move-back, in-word, lane-mask, load-sound, forward-sound, back-sound}
 
 -- ---- no check finds a fault
 
@@ -155,9 +155,9 @@ module _ (v : ℕ) where
           answers-more (modelTransition v) freshModel calls (arrival s ∷ [])
           ∙ ap (λ (t : Outcome Turn). modelAnswers v calls ++ arrivalAs t (modelAfter v calls) s .1 ∷ []) e
 
-    counts-leaves : turnNow ≡ value counts → countedRecords v (andArrival calls s) ≡ s ∷ countedRecords v calls
-    unfolding arrivalAs afterCounted
-    counts-leaves e = ap (λ (m : Model). m .counted) (arrived (value counts) e)
+    counts-leaves : turnNow ≡ value counts → modelAfter v (andArrival calls s) ≡ afterCounted (modelAfter v calls) s
+    unfolding arrivalAs
+    counts-leaves e = arrived (value counts) e
 
     counts-answers : turnNow ≡ value counts
         → modelAnswers v (andArrival calls s) ≡ modelAnswers v calls ++ value (done (decode s .number) (totalOf (decode s) 0 (modelAfter v calls .machines))) ∷ []
@@ -210,15 +210,24 @@ module _ (i q key x : ℕ) where
 module _ (v : ℕ) (least : 1 ≤ v) (most : v ≤ 6) where
   -- ---- and the bench
 
-  same : (calls : List Call) → benchAnswers v calls ≡ modelAnswers v calls
+  pub same : (calls : List Call) → benchAnswers v calls ≡ modelAnswers v calls
   same calls = every-list v least most calls .same-answers
 
   module _ (calls : List Call) (s : List ℕ) where
-    counting : SoundRecord v s → decode s .number ≡ length (countedRecords v calls) + 1 → CountsNext v calls s
-    unfolding modelView
-    counting sound n =
-        let e = next-counts (modelView v (modelAfter v calls)) s (every-list v least most calls .no-check-1) sound n in
-        record { one-more = counts-leaves v calls s e; answered = rw (same (andArrival calls s), same calls) (counts-answers v calls s e) }
+    module _ (sound : SoundRecord v s) (n : decode s .number ≡ length (countedRecords v calls) + 1) where
+      next-now : turnNow v calls s ≡ value counts
+      unfolding modelView
+      next-now = next-counts (modelView v (modelAfter v calls)) s (every-list v least most calls .no-check-1) sound n
+
+      pub next-leaves : modelAfter v (andArrival calls s) ≡ afterCounted (modelAfter v calls) s
+      next-leaves = counts-leaves v calls s next-now
+
+      pub next-answers : modelAnswers v (andArrival calls s) ≡ modelAnswers v calls ++ value (done (decode s .number) (totalOf (decode s) 0 (modelAfter v calls .machines))) ∷ []
+      next-answers = counts-answers v calls s next-now
+
+      pub counting : CountsNext v calls s
+      unfolding afterCounted
+      counting = record { one-more = ap (λ (m : Model). m .counted) next-leaves; answered = rw (same (andArrival calls s), same calls) next-answers }
 
     repeating : (earlier : List (List ℕ)) → countedRecords v calls ≡ s ∷ earlier → AnsweredAgain v calls s
     unfolding modelView
@@ -248,12 +257,6 @@ module _ (v : ℕ) (least : 1 ≤ v) (most : v ≤ 6) where
       let now = every-list v least most calls in
       now .same-lanes i lt ∙ ap (machineView v) (now .made-by-records i lt ∙ ap (madeBy i) e)
 
-  -- a record that is written down is sound if its fields are
-  written-sound : (r : Record) → decode (encode r) ≡ r → NoFault (fieldChecks v r) → SoundRecord v (encode r)
-  written-sound r e free =
-      no-fault-found (sizeCheck recordLength (encode r) ∷ fieldChecks v (decode (encode r))) (value tt)
-      (rw (eq-eqb (length (encode r)) recordLength (every-record r .0)), subst (λ (t : Record). NoFault (fieldChecks v t)) (sym e) free)
-
   module _ (i q key x : ℕ) (lane : i < laneCount) (from : q ≤ rounds) (fits : key < 2 ^ keyLength) (small : x < 2 ^ widthOf v) where
     abbrev theLoad : Record
     theLoad = loadRecord 1 i q (keyOf key) x
@@ -261,29 +264,16 @@ module _ (v : ℕ) (least : 1 ≤ v) (most : v ≤ 6) where
     abbrev loaded-list : List Call
     loaded-list = loadCall i q key x ∷ []
 
-    load-back : decode (encode theLoad) ≡ theLoad
-    load-back =
-        every-record theLoad .1
-        (record {
-          number = omega arith;
-          mask = omega arith;
-          low = omega arith;
-          high = omega arith;
-          block = omega (arith, pow-mono {i = widthOf v} {j = 64} (sound v .n-fits));
-          rest = omega arith;
-        })
-
-    load-free : NoFault (fieldChecks v theLoad)
-    unfolding kindOf unknown unused wrongCount noneNamed
-    load-free = search (lt-leb laneCount i lane, le-ltb rounds q from, lt-leb (2 ^ widthOf v) x small)
+    its-load : decode (encode theLoad) ≡ theLoad
+    its-load = load-back 1 (omega arith) i q key x fits (in-word v x small)
 
     load-counts : countedRecords v loaded-list ≡ encode theLoad ∷ []
     unfolding stateAfter freshModel
-    load-counts = counting [] (encode theLoad) (written-sound theLoad load-back load-free) (ap (λ (t : Record). t .number) load-back) .one-more
+    load-counts = counting [] (encode theLoad) (load-sound 1 (omega arith) v i q key x lane from fits small) (ap (λ (t : Record). t .number) its-load) .one-more
 
     load-made : madeBy i (encode theLoad ∷ []) ≡ loaded key x q q
     unfolding madeBy
-    load-made = ap (λ (t : Record). machineStep t i empty) load-back ∙ load-step i q key x empty
+    load-made = ap (λ (t : Record). machineStep t i empty) its-load ∙ load-step i q key x empty
 
     by-load : laneAfter v loaded-list i ≡ laneShows q x
     unfolding machineView
@@ -294,45 +284,24 @@ module _ (v : ℕ) (least : 1 ≤ v) (most : v ≤ 6) where
       abbrev theMove : Record
       theMove = moveRecord (kindByte k) 2 (2 ^ i) c
 
-      move-back : decode (encode theMove) ≡ theMove
-      move-back =
-          every-record theMove .1
-          (record {
-            number = omega arith;
-            mask = pow-lt {i = i} {j = 64} lane;
-            low = omega arith;
-            high = omega arith;
-            block = omega arith;
-            rest = omega arith;
-          })
+      its-move : decode (encode theMove) ≡ theMove
+      its-move = move-back 2 (omega arith) (kindByte k) (2 ^ i) c (lane-mask i lane)
 
-      by-move : (p : ℕ) → NoFault (fieldChecks v theMove) → machineStep theMove i (loaded key x q q) ≡ loaded key x q p
+      by-move : (p : ℕ) → SoundRecord v (encode theMove) → machineStep theMove i (loaded key x q q) ≡ loaded key x q p
           → laneAfter v (loadCall i q key x ∷ moveCall k i c ∷ []) i ≡ laneShows p (registersAt v key q x p)
       unfolding madeBy machineView
-      by-move p free step =
-          let n : decode (encode theMove) .number ≡ length (countedRecords v loaded-list) + 1 = rw load-counts (ap (λ (t : Record). t .number) move-back) in
-          let both = counting loaded-list (encode theMove) (written-sound theMove move-back free) n .one-more ∙ ap (λ (l : List (List ℕ)). encode theMove ∷ l) load-counts in
+      by-move p sound step =
+          let n : decode (encode theMove) .number ≡ length (countedRecords v loaded-list) + 1 = rw load-counts (ap (λ (t : Record). t .number) its-move) in
+          let both = counting loaded-list (encode theMove) sound n .one-more ∙ ap (λ (l : List (List ℕ)). encode theMove ∷ l) load-counts in
           shown-by (loadCall i q key x ∷ moveCall k i c ∷ []) i (encode theMove ∷ encode theLoad ∷ []) lane both
-          ∙ ap (machineView v) (ap₂ (λ (t : Record) (m : Machine). machineStep t i m) move-back load-made ∙ step)
+          ∙ ap (machineView v) (ap₂ (λ (t : Record) (m : Machine). machineStep t i m) its-move load-made ∙ step)
 
-    -- what the checks of a move ask
     module _ (c : ℕ) (some : 1 ≤ c) (few : c ≤ rounds) where
-      count-in : (eqb c 0 || ltb rounds c) ≡ false
-      count-in = rw (ne-eqb c 0 (λ e. omega arith), le-ltb rounds c few)
-
-      no-block : leb (2 ^ widthOf v) 0 ≡ false
-      no-block = lt-leb (2 ^ widthOf v) 0 (pow-pos (widthOf v))
-
-      names-some : eqb (2 ^ i) 0 ≡ false
-      names-some = ne-eqb (2 ^ i) 0 (λ e. omega (arith, pow-pos i))
-
       by-forward : laneAfter v (loadCall i q key x ∷ moveCall forward i c ∷ []) i ≡ laneShows (min rounds (q + c)) (registersAt v key q x (min rounds (q + c)))
-      unfolding kindOf unknown unused wrongCount noneNamed
-      by-forward = by-move forward c (min rounds (q + c)) (search (count-in, no-block, names-some)) (forward-step i q key x c)
+      by-forward = by-move forward c (min rounds (q + c)) (forward-sound 2 (omega arith) v (2 ^ i) (lane-mask i lane) (pow-pos i) c some few) (forward-step i q key x c)
 
       by-back : laneAfter v (loadCall i q key x ∷ moveCall back i c ∷ []) i ≡ laneShows (q - c) (registersAt v key q x (q - c))
-      unfolding kindOf unknown unused wrongCount noneNamed
-      by-back = by-move back c (q - c) (search (count-in, no-block, names-some)) (back-step i q key x c)
+      by-back = by-move back c (q - c) (back-sound 2 (omega arith) v (2 ^ i) (lane-mask i lane) (pow-pos i) c some few) (back-step i q key x c)
 
 -- THEOREM: the laws of every list
 pub laws : Laws

@@ -3,6 +3,11 @@ pub mod Turns
 pub mod Follow
 pub mod Records
 pub mod Lists
+pub mod Written
 pub mod Laws
+pub mod Numbering
+pub mod Crossed
+pub mod Pairs
+pub mod Exchange
 pub mod Loops
 pub mod Examples

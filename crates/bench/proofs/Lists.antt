@@ -1,37 +1,40 @@
 -- Demand 3: every list of calls is answered as the reference model answers it, and leaves each lane as its machine.
 -- Assumes nothing.
-use mathlib.Core.Path.{_≡_, refl, sym, ap, ap₂, _∙_}
+use mathlib.Core.Path.{_≡_, refl, sym, ap, ap₂, subst, _∙_}
 use mathlib.Core.List.{List, [], _∷_, map}
 use Prim.Native.Nat.{ℕ}
 use native.Mathlib.Omega.{arith}
 use lib.ListN.{length, getD}
 use Rattle.katan.specs.Checks.{Outcome, value, refused}
+use Rattle.katan.specs.Key.{keyOf}
+use Rattle.katan.proofs.KeyNumbers.{number-of-key}
 use Rattle.katan.proofs.Variants.{variant-sound}
 use Rattle.katan.specs.Sizes.{laneCount}
 use Rattle.bench_record.specs.Fields.{decode, kind}
+use Rattle.bench.specs.declared.Slot.{Slot}
 use Rattle.bench.specs.Calls.{Call, arrival, reading, done, again, Answer, stateAfter, answersTo}
 use Rattle.bench.specs.Checks.{LaneView, View, Turn, counts, repeats, decision, readOutcome}
 use Rattle.bench.specs.Model.{Model, freshModel, machineView, modelView, afterCounted, arrivalAs, modelTransition}
 use Rattle.bench.specs.Bench.{benchView, countedEffect, effectAs, arriveOf, readOf, State, freshState, afterEffect, benchTransition}
-use Rattle.bench.specs.Claim.{EveryList, TwoLists, Demand3}
-use Rattle.bench.proofs.Follow.{AllFollow, same-views, view-at, no-faults, fresh-follow, counted-slots, counted-total}
+use Rattle.bench.specs.Claim.{benchAfter, benchAnswers, modelAfter, modelAnswers, EveryList, TwoLists, Demand3}
+use Rattle.bench.proofs.Follow.{AllFollow, same-slots, same-views, view-at, no-faults, fresh-follow, counted-slots, counted-total}
 use Rattle.bench.proofs.Turns.{counts-next, repeats-last, no-latest}
 use Rattle.bench.proofs.Records.{Made, fresh-made, counted-made, same-made}
 
 -- the link keeps the latest record; while none has counted it may keep anything
-abbrev Latest : List (List ℕ) → List ℕ → Type 0
+abbrev pub Latest : List (List ℕ) → List ℕ → Type 0
 Latest [] bytes = Unit {0}
 Latest (s ∷ earlier) bytes = bytes ≡ s
 
 module _ (v : ℕ) where
   -- what a bench and link keep to, call by call
-  record Keeps (x : State) (m : Model) : Type 0 where
-    variant : x .bench .variant ≡ v
-    lanes : AllFollow v (x .bench .slots) (m .machines)
-    last : x .link .last ≡ length (m .counted)
-    latest : Latest (m .counted) (x .link .bytes)
-    total : x .link .total ≡ m .total
-    machines : Made m
+  pub record Keeps (x : State) (m : Model) : Type 0 where
+    pub variant : x .bench .variant ≡ v
+    pub lanes : AllFollow v (x .bench .slots) (m .machines)
+    pub last : x .link .last ≡ length (m .counted)
+    pub latest : Latest (m .counted) (x .link .bytes)
+    pub total : x .link .total ≡ m .total
+    pub machines : Made m
 
   record Agree (a : State × Answer) (b : Model × Answer) : Type 0 where
     answer : a .1 ≡ b .1
@@ -61,7 +64,7 @@ module _ (v : ℕ) where
           next =
               record {
                 variant = k .variant;
-                lanes = rw (k .variant) (counted-slots v (decode s) (x .bench .slots) (m .machines) (k .lanes) (kind (decode s)) refl (c .0 .count-in) (c .0 .block-in));
+                lanes = rw (k .variant) (counted-slots v (decode s) (x .bench .slots) (m .machines) (k .lanes) (kind (decode s)) refl (ap keyOf (sym (number-of-key _))) (c .0 .count-in) (c .0 .block-in));
                 last = omega (arith, c .1);
                 latest = refl;
                 total = t;
@@ -93,12 +96,28 @@ module _ (v : ℕ) where
   unfolding freshState freshModel
   fresh-keeps = record { variant = refl; lanes = fresh-follow v laneCount; last = refl; latest = tt; total = refl; machines = fresh-made }
 
+  fresh-calls : (calls : List Call) → (benchAnswers v calls ≡ modelAnswers v calls) × Keeps (benchAfter v calls) (modelAfter v calls)
+  fresh-calls calls = same-calls calls (freshState v) freshModel fresh-keeps
+
+  pub still-kept : (calls : List Call) → Keeps (benchAfter v calls) (modelAfter v calls)
+  still-kept calls = fresh-calls calls .1
+
+  -- lists that leave the same machines leave the same bench, every lane's key included
+  pub same-bench : (calls others : List Call) → modelAfter v calls .machines ≡ modelAfter v others .machines → benchAfter v calls .bench ≡ benchAfter v others .bench
+  same-bench calls others e =
+      let a = still-kept calls in
+      let b = still-kept others in
+      let x = benchAfter v calls .bench in
+      let y = benchAfter v others .bench in
+      ap₂ (λ (variant : ℕ) (slots : List Slot). record { variant = variant; slots = slots }) (a .variant ∙ sym (b .variant))
+      (same-slots v (x .slots) (y .slots) (modelAfter v calls .machines) (a .lanes) (subst (AllFollow v (y .slots)) (sym e) (b .lanes)))
+
 -- THEOREM: for every variant and every list of calls, the bench follows the reference model
 pub every-list : EveryList
 every-list v least most calls =
-    let r = same-calls v calls (freshState v) freshModel (fresh-keeps v) in
-    let m = stateAfter (modelTransition v) freshModel calls in
-    let slots = stateAfter benchTransition (freshState v) calls .bench .slots in
+    let r = fresh-calls v calls in
+    let m = modelAfter v calls in
+    let slots = benchAfter v calls .bench .slots in
     record {
       same-answers = r .0;
       same-lanes = λ i lt. view-at v slots (m .machines) (r .1 .lanes) i;

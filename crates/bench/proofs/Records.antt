@@ -47,7 +47,7 @@ counted-made m s k =
 
 -- ---- records that say the same of a lane make the same of its machine
 
-same-as : (k : Kind) (r q : Record) (m : Machine) → r .count ≡ q .count → r .key ≡ q .key → r .block ≡ q .block → stepAs k r m ≡ stepAs k q m
+pub same-as : (k : Kind) (r q : Record) (m : Machine) → r .count ≡ q .count → r .key ≡ q .key → r .block ≡ q .block → stepAs k r m ≡ stepAs k q m
 unfolding stepAs
 same-as load r q m c k b = rw (c, k, b)
 same-as forward r q empty c k b = refl

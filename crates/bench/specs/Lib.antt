@@ -6,4 +6,5 @@ pub mod Steps
 pub mod Bench
 pub mod Claim
 pub mod Laws
+pub mod Exchange
 pub mod inner
