@@ -138,6 +138,7 @@ pub struct Lane {
 }
 
 /// What the link remembers: the last counted number, its record and its total.
+#[derive(Clone)]
 struct Link {
     last: u32,
     record: Vec<u8>,
@@ -145,6 +146,7 @@ struct Link {
 }
 
 /// A bench with its link.
+#[derive(Clone)]
 pub struct Bench {
     variant: Variant,
     machines: [Machine; LANES],
@@ -371,6 +373,18 @@ pub fn clear(number: u32, mask: u64) -> Vec<u8> {
     masked(CLEAR, number, mask, 0)
 }
 
+/// The record with another number.
+pub fn numbered(record: &[u8], number: u32) -> Vec<u8> {
+    let mut record = record.to_vec();
+    put(&mut record, 4, &number.to_le_bytes());
+    record
+}
+
+/// Whether a record of 40 bytes names a lane from 0 to 63.
+pub fn names(record: &[u8], lane: usize) -> bool {
+    Fields::of(record.try_into().unwrap()).names(lane)
+}
+
 #[cfg(test)]
 mod tests {
     use super::Reply::*;
@@ -446,6 +460,11 @@ mod tests {
             hex(clear(256, 0x0102)),
             "04000000 00010000 0201000000000000 00000000000000000000 0000000000000000 000000000000"
                 .replace(' ', "")
+        );
+        // A number is written over the old one and over nothing else.
+        assert_eq!(
+            numbered(&load(u32::MAX, 63, 254, &key, u64::MAX), 0x04030201),
+            load(0x04030201, 63, 254, &key, u64::MAX)
         );
     }
 
@@ -731,10 +750,6 @@ mod tests {
         }
     }
 
-    fn names(record: &[u8], lane: usize) -> bool {
-        Fields::of(record.try_into().unwrap()).names(lane)
-    }
-
     /// A record that says the same of a lane as a given one, and otherwise something else.
     fn saying_the_same(record: &[u8], lane: usize, random: &mut Random, width: u32) -> Vec<u8> {
         if names(record, lane) {
@@ -755,12 +770,6 @@ mod tests {
                 return other;
             }
         }
-    }
-
-    fn numbered(record: &[u8], number: u32) -> Vec<u8> {
-        let mut record = record.to_vec();
-        put(&mut record, 4, &number.to_le_bytes());
-        record
     }
 
     /// Two lists whose counted records say the same of a lane leave it alike, whatever else

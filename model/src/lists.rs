@@ -7,7 +7,7 @@
 //! - `r N` reads lane N. Answer: `at POSITION REGISTERS`, the registers as 16 digits, or
 //!   `refused K`.
 
-use crate::bench::{back, clear, forward, load, Bench, Reading, Reply};
+use crate::bench::{back, clear, forward, load, numbered, Bench, Reading, Reply};
 use crate::bench::{BACK, CLEAR, FORWARD, LOAD};
 use crate::cipher::Variant;
 use crate::random::Random;
@@ -625,12 +625,6 @@ impl Lists {
         };
         self.read(lane);
     }
-}
-
-fn numbered(record: &[u8], number: u32) -> Vec<u8> {
-    let mut record = record.to_vec();
-    record[4..8].copy_from_slice(&number.to_le_bytes());
-    record
 }
 
 /// The bytes that a record of a kind leaves zero.
