@@ -6,6 +6,7 @@ pub mod bench;
 pub mod calls;
 pub mod cipher;
 pub mod driver;
+pub mod exchange;
 pub mod lists;
 pub mod random;
 pub mod script;

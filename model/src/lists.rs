@@ -7,9 +7,10 @@
 //! - `r N` reads lane N. Answer: `at POSITION REGISTERS`, the registers as 16 digits, or
 //!   `refused K`.
 
-use crate::bench::{back, clear, forward, load, numbered, Bench, Reading, Reply};
+use crate::bench::{back, clear, forward, load, numbered, Bench, Lane, Reading, Reply, LANES};
 use crate::bench::{BACK, CLEAR, FORWARD, LOAD};
 use crate::cipher::Variant;
+use crate::exchange::{pair, pairs_of_kinds, totals, Met};
 use crate::random::Random;
 use std::fmt;
 
@@ -81,6 +82,13 @@ pub fn lines() -> Vec<(Call, String)> {
         lists.refused_benches();
         lists.read_some(4);
     }
+    let mut met = Met::default();
+    for variant in Variant::ALL {
+        for kinds in pairs_of_kinds() {
+            lists.either_order(variant, kinds, &mut met);
+        }
+    }
+    met.assert_all();
     lists.lines
 }
 
@@ -109,9 +117,22 @@ impl Lists {
         reply
     }
 
-    fn read(&mut self, lane: u64) {
+    fn read(&mut self, lane: u64) -> Reading {
         let reading = self.bench().read(lane);
         self.lines.push((Call::Read(lane), reading_line(reading)));
+        reading
+    }
+
+    fn call(&mut self, call: Call) {
+        match call {
+            Call::Bench(variant) => self.open(variant),
+            Call::Arrive(record) => {
+                self.arrive(record);
+            }
+            Call::Read(lane) => {
+                self.read(lane);
+            }
+        }
     }
 
     fn read_all(&mut self) {
@@ -161,25 +182,6 @@ impl Lists {
         load(self.next(), lane, position, &key, block)
     }
 
-    /// A position, more often than others at an end.
-    fn position(&mut self) -> u8 {
-        match self.random.below(8) {
-            0 => 0,
-            1 => 254,
-            _ => self.random.below(255) as u8,
-        }
-    }
-
-    /// A move's count, more often than others small or at an end.
-    fn count(&mut self) -> u8 {
-        match self.random.below(8) {
-            0 => 1,
-            1 => 254,
-            2 | 3 => 1 + self.random.below(254) as u8,
-            _ => 1 + self.random.below(40) as u8,
-        }
-    }
-
     /// A mask that is not 0: all lanes, one, few, or about half.
     fn mask(&mut self) -> u64 {
         let one = 1 << self.random.below(64);
@@ -197,11 +199,11 @@ impl Lists {
         match kind {
             LOAD => {
                 let lane = self.random.below(64) as u8;
-                let position = self.position();
+                let position = self.random.position();
                 self.sound_load(lane, position)
             }
-            FORWARD => forward(next, self.mask(), self.count()),
-            BACK => back(next, self.mask(), self.count()),
+            FORWARD => forward(next, self.mask(), self.random.count()),
+            BACK => back(next, self.mask(), self.random.count()),
             _ => {
                 let one = 1 << self.random.below(64);
                 let few = self.mask() & self.random.next_u64() & self.random.next_u64();
@@ -214,7 +216,7 @@ impl Lists {
     fn open_loaded(&mut self, variant: Variant) {
         self.open(variant.number());
         for lane in [0, 1, 31, 32, 62, 63] {
-            let position = self.position();
+            let position = self.random.position();
             let record = self.sound_load(lane, position);
             self.arrive(record);
         }
@@ -422,6 +424,13 @@ impl Lists {
         record
     }
 
+    /// A record of a kind with one of its faults.
+    fn faulty(&mut self, kind: u8) -> Vec<u8> {
+        let faults = faults(kind, self.variant());
+        let fault = faults[self.random.below(faults.len() as u64) as usize];
+        self.spoiled(kind, &[fault])
+    }
+
     fn spoil(&mut self, kind: u8, fault: u8, record: &mut Vec<u8>) {
         let last = self.last();
         match fault {
@@ -596,11 +605,7 @@ impl Lists {
                 near[self.random.below(40) as usize] ^= 1 << self.random.below(8);
                 near
             }
-            3 => {
-                let faults = faults(kind, self.variant());
-                let fault = faults[self.random.below(faults.len() as u64) as usize];
-                self.spoiled(kind, &[fault])
-            }
+            3 => self.faulty(kind),
             4 => self.spoiled(kind, &[9]),
             5 => {
                 let length = self.random.below(LONGEST as u64 + 1) as usize;
@@ -624,6 +629,60 @@ impl Lists {
             _ => self.lane_to_read(),
         };
         self.read(lane);
+    }
+
+    /// Two records of the given kinds without a common lane, in either order, on two benches
+    /// brought to the same state: the totals and the lanes are the same.
+    fn either_order(&mut self, variant: Variant, kinds: [u8; 2], met: &mut Met) {
+        let from = self.lines.len();
+        self.open(variant.number());
+        self.few_arrivals();
+        let earlier = self.lines[from..].to_vec();
+        let before = self.bench().clone();
+        let [s, t] = &pair(&mut self.random, &before, kinds);
+        let ([s_first, t_second], one) = self.put_in_turn([s, t]);
+        for (call, _) in &earlier {
+            self.call(call.clone());
+        }
+        assert!(self.lines.ends_with(&earlier));
+        let ([t_first, s_second], two) = self.put_in_turn([t, s]);
+        assert_eq!((s_first, t_second), (s_second, t_first));
+        assert_eq!(one, two);
+        met.add(&before, [s, t], [s_first, t_second]);
+    }
+
+    /// Three loads and one other arrival.
+    fn few_arrivals(&mut self) {
+        for _ in 0..3 {
+            let lane = match self.random.below(6) {
+                0 => 0,
+                1 => 63,
+                _ => self.random.below(64) as u8,
+            };
+            let position = self.random.position();
+            let record = self.sound_load(lane, position);
+            self.arrive(record);
+        }
+        let record = match self.random.below(4) {
+            0 => self.latest(),
+            1 => forward(self.next(), ALL, self.random.count()),
+            2 => back(self.next(), ALL, self.random.count()),
+            _ => {
+                let kind = 1 + self.random.below(4) as u8;
+                self.faulty(kind)
+            }
+        };
+        self.arrive(record);
+    }
+
+    /// The totals of two records put in turn, then each lane's reading and, key included, what it
+    /// holds.
+    fn put_in_turn(&mut self, records: [&[u8]; 2]) -> ([u32; 2], Vec<(Reading, Option<Lane>)>) {
+        let totals = totals(self.last(), records, |record| self.arrive(record.to_vec()));
+        let lanes = (0..LANES)
+            .map(|lane| (self.read(lane as u64), self.bench().lane(lane)))
+            .collect();
+        (totals, lanes)
     }
 }
 
@@ -693,7 +752,7 @@ mod tests {
             }
         }
         let bytes: usize = lines.iter().map(|(c, _)| c.to_string().len() + 1).sum();
-        assert!(bytes < 600_000);
+        assert!(bytes < 700_000);
 
         // Every refusal, and about half of the arrivals counting.
         let arrivals: Vec<&String> = lines

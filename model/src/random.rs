@@ -35,6 +35,25 @@ impl Random {
     pub fn key(&mut self) -> [u8; 10] {
         std::array::from_fn(|_| self.bits(8) as u8)
     }
+
+    /// A position, more often than others at an end.
+    pub fn position(&mut self) -> u8 {
+        match self.below(8) {
+            0 => 0,
+            1 => 254,
+            _ => self.below(255) as u8,
+        }
+    }
+
+    /// A move's count, more often than others small or at an end.
+    pub fn count(&mut self) -> u8 {
+        match self.below(8) {
+            0 => 1,
+            1 => 254,
+            2 | 3 => 1 + self.below(254) as u8,
+            _ => 1 + self.below(40) as u8,
+        }
+    }
 }
 
 #[cfg(test)]
