@@ -3,9 +3,11 @@
 
 mod common;
 
-use common::{length, one_of, start, variant, width};
+use common::{
+    arrival, call_answer, length, list, model_answer, one_of, record, start, variant, width,
+};
 use katan_bench::raw::{self, BENCH_LENGTH, LINK_LENGTH};
-use katan_bench::{replay, Answer, Call, Reading, Refusal, Reply};
+use katan_bench::{replay, Answer, Call};
 use katan_model::calls::Direction;
 use katan_model::{bench as records, driver as model, Random, Variant};
 
@@ -121,69 +123,6 @@ fn rate_sheet() {
         );
     }
     assert_eq!(raw::cycles(u32::MAX), model::cycles(u32::MAX));
-}
-
-/// A sound record of any kind, numbered so.
-fn record(random: &mut Random, variant: u8, number: u32) -> Vec<u8> {
-    let mask = match random.below(4) {
-        0 => 1 << random.below(64),
-        1 => u64::MAX,
-        _ => random.next_u64() | 1,
-    };
-    let count = match random.below(3) {
-        0 => one_of(random, &[1, 2, 253, 254]),
-        _ => 1 + random.below(254) as u8,
-    };
-    match random.below(8) {
-        0..=2 => {
-            let key = random.key();
-            let lane = one_of(random, &[0, 1, 2, 31, 32, 62, 63]);
-            let position = random.below(255) as u8;
-            let width = width(variant);
-            records::load(number, lane, position, &key, random.bits(width))
-        }
-        3 | 4 => records::forward(number, mask, count),
-        5 | 6 => records::back(number, mask, count),
-        _ => records::clear(number, mask),
-    }
-}
-
-/// One fault of any number from 2 to 10, put into a record of 40 bytes.
-fn fault(random: &mut Random, sent: &mut Vec<u8>) {
-    match random.below(9) {
-        0 => {
-            let length = one_of(random, &[0, 1, 39, 41, 80, 400]);
-            sent.resize(length, 0);
-        }
-        1 => sent[0] = one_of(random, &[0, 5, 6, 128, 255]),
-        2 => sent[one_of(random, &[3, 34, 35, 36, 37, 38, 39])] = 1 << random.below(8),
-        3 => sent[1] = one_of(random, &[64, 65, 127, 128, 255]),
-        4 => sent[2] = one_of(random, &[0, 255]),
-        5 => sent[26 + random.below(8) as usize] = random.bits(8) as u8,
-        6 => sent[8..16].fill(0),
-        7 => sent[4 + random.below(4) as usize] ^= 1 << random.below(8),
-        _ => sent[random.below(40) as usize] ^= 1 << random.below(8),
-    }
-}
-
-/// A record of any kind, in turn or not, with no fault, one or two, or a repeat of the latest one.
-fn arrival(random: &mut Random, variant: u8, last: u32, latest: &[u8]) -> Vec<u8> {
-    let number = match random.below(10) {
-        0 => last,
-        1 => one_of(random, &[0, 1, last.wrapping_add(2), u32::MAX]),
-        2 => random.bits(32) as u32,
-        _ => last.wrapping_add(1),
-    };
-    let mut sent = match random.below(6) {
-        0 if latest.len() == records::RECORD_LENGTH => latest.to_vec(),
-        _ => record(random, variant, number),
-    };
-    for _ in 0..one_of(random, &[0, 0, 0, 1, 1, 2]) {
-        if sent.len() == records::RECORD_LENGTH {
-            fault(random, &mut sent);
-        }
-    }
-    sent
 }
 
 /// Bench and link as a driver may hand them in: every lane empty or loaded at some position, with bytes
@@ -349,42 +288,6 @@ fn pairs_of_faults() {
     );
 }
 
-fn model_answer(bench: &mut katan_model::Bench, call: &Call) -> Answer {
-    let refused = |check| Answer::Refused(Refusal::from_number(check).unwrap());
-    match call {
-        Call::Arrive(sent) => match bench.arrive(sent) {
-            katan_model::Reply::Done { number, total } => {
-                Answer::Reply(Reply::Done { number, total })
-            }
-            katan_model::Reply::Again { number, total } => {
-                Answer::Reply(Reply::Again { number, total })
-            }
-            katan_model::Reply::Refused(check) => refused(check),
-        },
-        Call::Read(lane) => match bench.read(*lane as u64) {
-            katan_model::Reading::At {
-                position,
-                registers,
-            } => Answer::Reading(Reading {
-                position,
-                registers,
-            }),
-            katan_model::Reading::Refused(check) => refused(check),
-        },
-    }
-}
-
-fn call_answer(bench: &mut katan_bench::Bench, call: &Call) -> Answer {
-    match call {
-        Call::Arrive(sent) => bench
-            .arrive(sent)
-            .map_or_else(Answer::Refused, Answer::Reply),
-        Call::Read(lane) => bench
-            .read(*lane as u64)
-            .map_or_else(Answer::Refused, Answer::Reading),
-    }
-}
-
 /// What goes wrong with a list, if anything does: call by call with the bench handed back and forth, and
 /// as one replay.
 fn fault_of(variant: u8, calls: &[Call]) -> Option<String> {
@@ -427,7 +330,7 @@ fn renumbered(calls: &[Call]) -> Vec<Call> {
         if let Call::Arrive(sent) = call {
             if sent.len() == records::RECORD_LENGTH {
                 number += 1;
-                sent[4..8].copy_from_slice(&number.to_le_bytes());
+                *sent = records::numbered(sent, number);
             }
         }
     }
@@ -465,27 +368,6 @@ fn shrunk(variant: u8, mut calls: Vec<Call>) -> Vec<Call> {
             return calls;
         }
     }
-}
-
-fn list(random: &mut Random, variant: u8) -> Vec<Call> {
-    let mut reference = katan_model::Bench::new(variant).unwrap();
-    let length = random.below(80);
-    (0..length)
-        .map(|_| {
-            let call = match random.below(4) {
-                0 => Call::Read(match random.below(8) {
-                    0 => one_of(random, &[64, 255, 256, u32::MAX]),
-                    _ => one_of(random, &[0, 1, 2, 31, 32, 62, 63]),
-                }),
-                _ => {
-                    let (last, latest) = (reference.last(), reference.latest().to_vec());
-                    Call::Arrive(arrival(random, variant, last, &latest))
-                }
-            };
-            model_answer(&mut reference, &call);
-            call
-        })
-        .collect()
 }
 
 /// Lists of calls from a fresh bench and link.
