@@ -42,13 +42,7 @@ pub fn pair(random: &mut Random, bench: &Bench, kinds: [u8; 2]) -> [Vec<u8>; 2] 
     for i in [first_widened, 1 - first_widened] {
         // A load names its own lane alone.
         if kinds[i] != LOAD {
-            let more = match random.below(4) {
-                0 => 0,
-                1 => u64::MAX,
-                2 => random.next_u64() & random.next_u64() & random.next_u64(),
-                _ => random.next_u64(),
-            };
-            masks[i] |= more & !masks[1 - i];
+            masks[i] |= random.lanes() & !masks[1 - i];
         }
     }
     let width = bench.variant().width();

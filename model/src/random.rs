@@ -36,6 +36,16 @@ impl Random {
         std::array::from_fn(|_| self.bits(8) as u8)
     }
 
+    /// A mask of no lane, all, few, or about half.
+    pub fn lanes(&mut self) -> u64 {
+        match self.below(4) {
+            0 => 0,
+            1 => u64::MAX,
+            2 => self.next_u64() & self.next_u64() & self.next_u64(),
+            _ => self.next_u64(),
+        }
+    }
+
     /// A position, more often than others at an end.
     pub fn position(&mut self) -> u8 {
         match self.below(8) {
