@@ -20,9 +20,9 @@ fn lane(random: &mut Random, bench: &Bench) -> u8 {
         .collect();
     match random.below(8) {
         0 => 0,
-        1 => 63,
+        1 => LANES as u8 - 1,
         2..=5 if !loaded.is_empty() => loaded[random.below(loaded.len() as u64) as usize],
-        _ => random.below(64) as u8,
+        _ => random.below(LANES as u64) as u8,
     }
 }
 
@@ -120,7 +120,7 @@ impl Met {
         let is_at_end = positions.iter().any(|p| ahead(p) == 0);
         for (what, is_met) in [
             ("lane 0", named.contains(&0)),
-            ("lane 63", named.contains(&63)),
+            ("the last lane", named.contains(&(LANES - 1))),
             ("a load into an empty lane", kind == LOAD && some_empty),
             ("a load over a loaded lane", kind == LOAD && some_loaded),
             ("a clear of an empty lane", kind == CLEAR && some_empty),
