@@ -99,6 +99,8 @@ impl Met {
         let differ = totals[0] != totals[1];
         self.note("totals that differ", differ);
         self.note("neither of them 0", differ && !totals.contains(&0));
+        let loaded = (0..LANES).filter(|lane| bench.lane(*lane).is_some());
+        self.note("more than eight lanes loaded", loaded.count() > 8);
         for i in 0..2 {
             self.add_record(bench, pair[i], &named[i], totals[i]);
         }

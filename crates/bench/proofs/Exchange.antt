@@ -2,7 +2,7 @@
 -- Assumes nothing.
 use mathlib.Core.Path.{_≡_, refl, sym, ap, ap₂, subst, _∙_}
 use mathlib.Core.Bool.{Bool, true, false, _&&_, and-comm, true≢false}
-use mathlib.Core.List.{List, [], _∷_, _++_, append-assoc, List·Memᴰ, List·Memᴰ·head, List·Memᴰ·tail}
+use mathlib.Core.List.{List, [], _∷_, _++_, append-assoc, List·Memᴰ·head, List·Memᴰ·tail}
 use Prim.Native.Nat.{ℕ, suc, _+_, _^_, _<_, _≤_}
 use native.Mathlib.Omega.{arith}
 use lib.ListN.{length}
@@ -17,13 +17,13 @@ use Rattle.bench.specs.declared.Link.{Link}
 use Rattle.bench.specs.Machine.{Machine, stepAs, movedAs, stepAll, totalOf}
 use Rattle.bench.specs.Calls.{Call, arrival, reading, done, Answer, answersTo}
 use Rattle.bench.specs.Checks.{arrivalChecks, Turn, counts, repeats, decision}
-use Rattle.bench.specs.Model.{Model, afterCounted}
+use Rattle.bench.specs.Model.{Model, afterCounted, modelTransition}
 use Rattle.bench.specs.Bench.{benchView, effectAs, arriveOf, readOf, State, afterEffect, benchTransition}
-use Rattle.bench.specs.Claim.{benchAfter, benchAnswers, modelAfter, modelAnswers, countedRecords}
+use Rattle.bench.specs.Claim.{benchAfter, benchAnswers, modelAfter, modelAnswers, countedRecords, lastNumber}
 use Rattle.bench.specs.Laws.{SoundRecord, andArrival}
-use Rattle.bench.specs.Exchange.{numbered, Apart, mostCounted, lastAfter, totalNext, bothDone, inTurn, Ready, SameTotals, EitherOrder}
+use Rattle.bench.specs.Exchange.{numbered, Apart, NotSent, lastAfter, totalNext, bothDone, inTurn, NeitherSent, Ready, SameTotals, EitherOrder}
 use Rattle.bench.proofs.Turns.{repeats-last}
-use Rattle.bench.proofs.Lists.{Latest, still-kept, same-bench}
+use Rattle.bench.proofs.Lists.{Latest, same-calls, still-kept, same-bench}
 use Rattle.bench.proofs.Laws.{same, next-leaves, next-answers, counting}
 use Rattle.bench.proofs.Numbering.{its-number, numbered-sound, numbered-steps, numbered-total}
 
@@ -66,9 +66,6 @@ not-latest latest s differs = go (sameBytes latest s) refl
     go true e = absurd (differs (sym (same-equal latest s e)))
     go false e = refl
 
-abbrev NotIn : List ℕ → List Call → Type 0
-NotIn s more = List·Memᴰ (arrival s) more → ⊥
-
 module _ (b : Bench) (l o : Link) (last : l .last ≡ o .last) where
   same-decision : (s : List ℕ) → (s ≡ l .bytes → ⊥) → (s ≡ o .bytes → ⊥) → decision (benchView b l) s ≡ decision (benchView b o) s
   unfolding benchView decision arrivalChecks
@@ -89,7 +86,7 @@ module _ (b : Bench) (l o : Link) (last : l .last ≡ o .last) where
   same-turn s more (value repeats) e differs rest = absurd (differs (repeats-last (benchView b l) s e .is-latest))
   same-turn s more (refused k) e differs rest = ap (λ (a : List Answer). refused k ∷ a) rest
 
-  same-later : (more : List Call) → NotIn (l .bytes) more → NotIn (o .bytes) more → answersTo benchTransition (with-link l) more ≡ answersTo benchTransition (with-link o) more
+  same-later : (more : List Call) → NotSent (l .bytes) more → NotSent (o .bytes) more → answersTo benchTransition (with-link l) more ≡ answersTo benchTransition (with-link o) more
   unfolding answersTo benchTransition arriveOf
   same-later [] p q = refl
   same-later (reading i ∷ more) p q = ap (λ (a : List Answer). readOf b i ∷ a) (same-later more (λ m. p (List·Memᴰ·tail m)) (λ m. q (List·Memᴰ·tail m)))
@@ -108,7 +105,7 @@ module _ (v : ℕ) (least : 1 ≤ v) (most : v ≤ 6) (calls : List Call) where
 
   -- ---- one order
 
-  module _ (s t : List ℕ) (sound-s : SoundRecord v s) (sound-t : SoundRecord v t) (two-left : last ≤ mostCounted) where
+  module _ (s t : List ℕ) (sound-s : SoundRecord v s) (sound-t : SoundRecord v t) (two-left : last + 2 ≤ lastNumber) where
     abbrev s₁ : List ℕ
     s₁ = numbered (last + 1) s
 
@@ -197,11 +194,11 @@ module _ (v : ℕ) (least : 1 ≤ v) (most : v ≤ 6) (calls : List Call) where
   apart-back : (s t : List ℕ) → Apart s t → Apart t s
   apart-back s t apart i lt = and-comm (names (decode t) i) (names (decode s) i) ∙ apart i lt
 
-  module _ (s t : List ℕ) (r : Ready v calls s t) where
+  module _ (s t : List ℕ) (r : Ready v calls s t) (apart : Apart s t) where
     same-machines : modelAfter v (inTurn v calls s t) .machines ≡ modelAfter v (inTurn v calls t s) .machines
     same-machines =
         after-both s t (r .sound-s) (r .sound-t) (r .two-left)
-        ∙ steps-apart (decode t) (decode s) machines 0 (apart-from t s (apart-back s t (r .apart))) .0
+        ∙ steps-apart (decode t) (decode s) machines 0 (apart-from t s (apart-back s t apart)) .0
         ∙ sym (after-both t s (r .sound-t) (r .sound-s) (r .two-left))
 
     model-answers : SameTotals v calls (modelAnswers v) s t
@@ -209,10 +206,10 @@ module _ (v : ℕ) (least : 1 ≤ v) (most : v ≤ 6) (calls : List Call) where
         record {
           first-order =
               both-answered s t (r .sound-s) (r .sound-t) (r .two-left)
-              ∙ ap (λ (x : ℕ). modelAnswers v calls ++ bothDone v calls (totalNext v calls s) x) (steps-apart (decode t) (decode s) machines 0 (apart-from t s (apart-back s t (r .apart))) .1);
+              ∙ ap (λ (x : ℕ). modelAnswers v calls ++ bothDone v calls (totalNext v calls s) x) (steps-apart (decode t) (decode s) machines 0 (apart-from t s (apart-back s t apart)) .1);
           second-order =
               both-answered t s (r .sound-t) (r .sound-s) (r .two-left)
-              ∙ ap (λ (x : ℕ). modelAnswers v calls ++ bothDone v calls (totalNext v calls t) x) (steps-apart (decode s) (decode t) machines 0 (apart-from s t (r .apart)) .1);
+              ∙ ap (λ (x : ℕ). modelAnswers v calls ++ bothDone v calls (totalNext v calls t) x) (steps-apart (decode s) (decode t) machines 0 (apart-from s t apart) .1);
         }
 
     bench-answers : SameTotals v calls (benchAnswers v) s t
@@ -225,23 +222,30 @@ module _ (v : ℕ) (least : 1 ≤ v) (most : v ≤ 6) (calls : List Call) where
     alike : benchAfter v (inTurn v calls s t) .bench ≡ benchAfter v (inTurn v calls t s) .bench
     alike = same-bench v (inTurn v calls s t) (inTurn v calls t s) same-machines
 
-    later : (more : List Call) → NotIn (numbered (last + 2) s) more → NotIn (numbered (last + 2) t) more
+    bench-later : (more : List Call) → NeitherSent v calls s t more
         → answersTo benchTransition (benchAfter v (inTurn v calls s t)) more ≡ answersTo benchTransition (benchAfter v (inTurn v calls t s)) more
-    later more p q =
+    bench-later more none =
         let x = benchAfter v (inTurn v calls s t) in
         let y = benchAfter v (inTurn v calls t s) in
         let a = its-link s t (r .sound-s) (r .sound-t) (r .two-left) in
         let b = its-link t s (r .sound-t) (r .sound-s) (r .two-left) in
-        same-later (x .bench) (x .link) (y .link) (a .1 ∙ sym (b .1)) more (rw (a .0) q) (rw (b .0) p)
+        same-later (x .bench) (x .link) (y .link) (a .1 ∙ sym (b .1)) more (rw (a .0) (none .1)) (rw (b .0) (none .0))
         ∙ ap (λ (z : Bench). answersTo benchTransition (record { bench = z; link = y .link }) more) alike
+
+    -- the bench answers as the model does
+    model-later : (more : List Call) → NeitherSent v calls s t more
+        → answersTo (modelTransition v) (modelAfter v (inTurn v calls s t)) more ≡ answersTo (modelTransition v) (modelAfter v (inTurn v calls t s)) more
+    model-later more none =
+        sym (same-calls v more _ _ (still-kept v (inTurn v calls s t)) .0) ∙ bench-later more none ∙ same-calls v more _ _ (still-kept v (inTurn v calls t s)) .0
 
 -- THEOREM: it does not matter who presses first
 pub either-order : EitherOrder
-either-order v least most calls s t r =
+either-order v least most calls s t r apart =
     record {
-      same-bench = alike v least most calls s t r;
-      same-machines = same-machines v least most calls s t r;
-      bench-answers = bench-answers v least most calls s t r;
-      model-answers = model-answers v least most calls s t r;
-      later = later v least most calls s t r;
+      same-bench = alike v least most calls s t r apart;
+      same-machines = same-machines v least most calls s t r apart;
+      bench-answers = bench-answers v least most calls s t r apart;
+      model-answers = model-answers v least most calls s t r apart;
+      bench-later = bench-later v least most calls s t r apart;
+      model-later = model-later v least most calls s t r apart;
     }

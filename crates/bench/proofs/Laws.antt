@@ -4,14 +4,12 @@ use mathlib.Core.Path.{_≡_, refl, sym, ap, ap₂, subst, _∙_}
 use mathlib.Core.Bool.{Bool, true, false}
 use mathlib.Core.List.{List, [], _∷_, _++_, append-assoc, append-cancel-left, List·Memᴰ, List·Memᴰ·head, List·Memᴰ·cases-cons, List·Memᴰ·not-nil, Memᴰ·append-left, Memᴰ·append-right}
 use mathlib.Core.Logic.{_⊎_, inl, inr}
-use Prim.Native.Nat.{ℕ, _+_, _-_, _%_, _^_, _<_, _≤_, min}
-use native.Mathlib.Nat.{div-self}
+use Prim.Native.Nat.{ℕ, _+_, _-_, _^_, _<_, _≤_, min}
 use native.Mathlib.Omega.{arith}
-use lib.Dec.{eqb}
 use lib.ListN.{length, getD}
 use borrow.Author.Tests.{eq-eqb, ne-eqb}
 use lib.Pow.{pow-pos}
-use Rattle.katan.specs.Bit.{bit, pick}
+use Rattle.katan.specs.Bit.{pick}
 use Rattle.katan.specs.Counter.{rounds}
 use Rattle.katan.specs.Key.{keyLength, keyOf}
 use Rattle.katan.specs.Variant.{widthOf}
@@ -21,7 +19,6 @@ use Rattle.katan.specs.Sizes.{laneCount}
 use Rattle.katan.proofs.Checked.{NoFault, no-fault-found, all-passed}
 use Rattle.katan.proofs.KeyNumbers.{number-of-key}
 use Rattle.katan.proofs.Positions.{at-load}
-use Rattle.katan.proofs.Undo.{sound}
 use Rattle.bench_record.specs.declared.Record.{Record}
 use Rattle.bench_record.specs.Fields.{Kind, forward, back, kindByte, kindOf, namesAs, recordLength, decode}
 use Rattle.bench_record.specs.Codec.{encode, loadRecord, moveRecord}
@@ -36,7 +33,7 @@ use Rattle.bench.specs.Laws.{SoundRecord, FirstFault, andArrival, Counts
 use Rattle.bench.proofs.Calls.{state-more, answers-more}
 use Rattle.bench.proofs.Turns.{counts-next}
 use Rattle.bench.proofs.Lists.{every-list}
-use Rattle.bench.proofs.Written.{load-back, move-back, in-word, lane-mask, load-sound, forward-sound, back-sound}
+use Rattle.bench.proofs.Written.{load-back, move-back, in-word, lane-mask, own-bit, load-sound, forward-sound, back-sound}
 
 -- ---- no check finds a fault
 
@@ -192,20 +189,17 @@ module _ (i q key x : ℕ) where
   unfolding kindOf namesAs stepAs
   load-step m = ap₂ (λ (b : Bool) (k : ℕ). pick b (loaded k x q q) m) (eq-eqb i i refl) (number-of-key key)
 
-  names-it : eqb (bit (2 ^ i) i) 1 ≡ true
-  names-it = eq-eqb (bit (2 ^ i) i) 1 (ap (λ (y : ℕ). y % 2) (div-self (pow-pos i)))
-
   module _ (c : ℕ) where
     abbrev movedTo : Bool → (position : ℕ) → Machine
     movedTo b p = pick b (loaded key x q p) (loaded key x q q)
 
     forward-step : machineStep (moveRecord (kindByte forward) 2 (2 ^ i) c) i (loaded key x q q) ≡ loaded key x q (min rounds (q + c))
     unfolding kindOf namesAs stepAs
-    forward-step = ap (λ (b : Bool). movedTo b (min rounds (q + c))) names-it
+    forward-step = ap (λ (b : Bool). movedTo b (min rounds (q + c))) (own-bit i)
 
     back-step : machineStep (moveRecord (kindByte back) 2 (2 ^ i) c) i (loaded key x q q) ≡ loaded key x q (q - c)
     unfolding kindOf namesAs stepAs
-    back-step = ap (λ (b : Bool). movedTo b (q - c)) names-it
+    back-step = ap (λ (b : Bool). movedTo b (q - c)) (own-bit i)
 
 module _ (v : ℕ) (least : 1 ≤ v) (most : v ≤ 6) where
   -- ---- and the bench

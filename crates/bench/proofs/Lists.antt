@@ -83,7 +83,7 @@ module _ (v : ℕ) where
 
   -- ---- every call
 
-  same-calls : (calls : List Call) (x : State) (m : Model) → Keeps x m
+  pub same-calls : (calls : List Call) (x : State) (m : Model) → Keeps x m
       → (answersTo benchTransition x calls ≡ answersTo (modelTransition v) m calls) × Keeps (stateAfter benchTransition x calls) (stateAfter (modelTransition v) m calls)
   unfolding answersTo stateAfter
   same-calls [] x m k = (refl, k)

@@ -16,7 +16,7 @@ use Rattle.katan.specs.Key.{keyOf}
 use Rattle.katan.proofs.Checked.{all-passed}
 use Rattle.katan.proofs.Numbers.{length-bytes, number-bytes}
 use Rattle.bench_record.specs.declared.Record.{Record}
-use Rattle.bench_record.specs.Fields.{Kind, load, forward, back, clear, other, recordLength, part, decode, kind, namesAs, names}
+use Rattle.bench_record.specs.Fields.{Kind, load, forward, back, clear, other, recordLength, part, decode, kind, namesAs}
 use Rattle.bench_record.specs.Codec.{encode, loadRecord}
 use Rattle.bench_record.specs.Checks.{unused, fieldChecks}
 use Rattle.bench.specs.Machine.{Machine, empty, loaded, movedAs, stepAll, totalOf}
@@ -32,7 +32,7 @@ sample : numbered 67305985 (encode (loadRecord 0 63 254 (keyOf (2 ^ 80 - 1)) 0))
 unfolding numbered bytesOf encode
 sample = refl
 
-module _ (n : ℕ) (s : List ℕ) (size : length s ≡ recordLength) where
+module _ (n : ℕ) (s : List ℕ) (size : 8 ≤ length s) where
   four : length (take 4 s) ≡ 4
   four = length-take-le 4 s (omega arith)
 
@@ -85,7 +85,7 @@ abbrev withNumber : ℕ → Record → Record
 withNumber n r =
     record { kind = r .kind; lane = r .lane; count = r .count; gap = r .gap; number = n; mask = r .mask; key = r .key; block = r .block; rest = r .rest }
 
-fields-with : (n : ℕ) (s : List ℕ) → length s ≡ recordLength → n < 2 ^ 32 → decode (numbered n s) ≡ withNumber n (decode s)
+fields-with : (n : ℕ) (s : List ℕ) → 8 ≤ length s → n < 2 ^ 32 → decode (numbered n s) ≡ withNumber n (decode s)
 fields-with n s size lt =
     rw (byte-before n s size 0 (omega arith), byte-before n s size 1 (omega arith), byte-before n s size 2 (omega arith), byte-before n s size 3 (omega arith), number-is n s size lt,
       part-after n s size 0 8, part-after n s size 8 keyBytes, part-after n s size 18 8, part-after n s size 26 6)
@@ -135,10 +135,10 @@ module _ (n : ℕ) (r : Record) where
 -- ---- a numbered record
 
 module _ (n : ℕ) (s : List ℕ) (v : ℕ) (sound : SoundRecord v s) (lt : n < 2 ^ 32) where
-  whole : length s ≡ recordLength
+  whole : 8 ≤ length s
   whole =
-      let fields = all-passed tt (sizeCheck recordLength s ∷ fieldChecks v (decode s)) (value tt) sound .0 in
-      eqb-true (length s) recordLength (not-false (eqb (length s) recordLength) (fields .0))
+      let free = all-passed tt (sizeCheck recordLength s ∷ fieldChecks v (decode s)) (value tt) sound .0 in
+      omega (arith, eqb-true (length s) recordLength (not-false (eqb (length s) recordLength) (free .0)))
 
   fields : decode (numbered n s) ≡ withNumber n (decode s)
   fields = fields-with n s whole lt

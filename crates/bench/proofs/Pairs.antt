@@ -8,36 +8,26 @@ use native.Mathlib.Omega.{arith}
 use lib.Dec.{ltb, eqb}
 use lib.ListN.{length}
 use lib.Pow.{pow-pos, pow-lt}
-use borrow.Author.Tests.{ltb-true, ltb-false, ne-eqb, eqb-true, eqb-false}
+use borrow.Author.Tests.{eq-eqb, ltb-true, ltb-false, ne-eqb, eqb-true, eqb-false}
 use Rattle.katan.specs.Bit.{bit}
-use Rattle.katan.specs.Key.{keyOf}
 use Rattle.katan.specs.Checks.{Outcome, value, refused}
 use Rattle.katan.specs.Sizes.{laneCount}
 use Rattle.katan.specs.Variant.{widthOf}
 use Rattle.katan.proofs.Bits.{bit-below, bit-past, bit-zero}
 use Rattle.bench_record.specs.declared.Record.{Record}
 use Rattle.bench_record.specs.Fields.{Kind, load, forward, back, clear, other, kindByte, kindOf, kind, namesAs, names, decode}
-use Rattle.bench_record.specs.Codec.{loadRecord, moveRecord}
 use Rattle.bench.specs.Calls.{Call, arrival, reading, stateAfter}
 use Rattle.bench.specs.Checks.{Turn, counts, repeats, decision}
 use Rattle.bench.specs.Model.{Model, freshModel, modelView, afterCounted, arrivalAs, modelTransition}
 use Rattle.bench.specs.Claim.{countedRecords}
 use Rattle.bench.specs.Laws.{SoundRecord}
-use Rattle.bench.specs.Exchange.{Apart, onLane, SomeReady}
-use Rattle.bench.proofs.Written.{load-back, move-back, lane-mask, load-sound, forward-sound, back-sound, clear-sound}
+use Rattle.bench.specs.Exchange.{Apart, recordOn, onLane, KindAndLane, SomeReady}
+use Rattle.bench.proofs.Written.{load-back, move-back, lane-mask, own-bit, load-sound, forward-sound, back-sound, clear-sound}
 
 -- ---- a record on one lane
 
-abbrev recordOn : Kind → ℕ → Record
-recordOn load i = loadRecord 0 i 0 (keyOf 0) 0
-recordOn forward i = moveRecord (kindByte forward) 0 (2 ^ i) 1
-recordOn back i = moveRecord (kindByte back) 0 (2 ^ i) 1
-recordOn clear i = moveRecord (kindByte clear) 0 (2 ^ i) 0
-recordOn other i = moveRecord (kindByte other) 0 0 0
-
 module _ (a : ℕ) (lane : a < laneCount) where
   its-fields : (k : Kind) → (k ≡ other → ⊥) → decode (onLane k a) ≡ recordOn k a
-  unfolding onLane
   its-fields load known = load-back 0 (omega arith) a 0 0 0 (omega arith) (omega arith)
   its-fields forward known = move-back 0 (omega arith) (kindByte forward) (2 ^ a) 1 (lane-mask a lane)
   its-fields back known = move-back 0 (omega arith) (kindByte back) (2 ^ a) 1 (lane-mask a lane)
@@ -45,7 +35,6 @@ module _ (a : ℕ) (lane : a < laneCount) where
   its-fields other known = absurd (known refl)
 
   is-sound : (v : ℕ) (k : Kind) → (k ≡ other → ⊥) → SoundRecord v (onLane k a)
-  unfolding onLane
   is-sound v load known = load-sound 0 (omega arith) v a 0 0 0 lane (omega arith) (omega arith) (pow-pos (widthOf v))
   is-sound v forward known = forward-sound 0 (omega arith) v (2 ^ a) (lane-mask a lane) (pow-pos a) 1 (omega arith) (omega arith)
   is-sound v back known = back-sound 0 (omega arith) v (2 ^ a) (lane-mask a lane) (pow-pos a) 1 (omega arith) (omega arith)
@@ -61,7 +50,21 @@ module _ (a : ℕ) (lane : a < laneCount) where
       go forward known = refl
       go back known = refl
       go clear known = refl
-      go other known = refl
+      go other known = absurd (known refl)
+
+  names-it : (k : Kind) → (k ≡ other → ⊥) → names (decode (onLane k a)) a ≡ true
+  unfolding kindOf namesAs
+  names-it k known = ap (λ (r : Record). names r a) (its-fields k known) ∙ go k known
+    where
+      go : (k : Kind) → (k ≡ other → ⊥) → names (recordOn k a) a ≡ true
+      go load known = eq-eqb a a refl
+      go forward known = own-bit a
+      go back known = own-bit a
+      go clear known = own-bit a
+      go other known = absurd (known refl)
+
+  on-lane : (k : Kind) → (k ≡ other → ⊥) → KindAndLane k a
+  on-lane k known = record { its-kind = its-kind k known; names-it = names-it k known }
 
   -- no other lane is named
   no-bit : (i : ℕ) → (i ≡ a → ⊥) → bit (2 ^ a) i ≡ 0
@@ -115,12 +118,8 @@ module _ (v : ℕ) where
 -- THEOREM: records that meet what `EitherOrder` asks, of every two kinds and lanes
 pub some-ready : SomeReady
 some-ready v least most calls few j k known-j known-k a b lane-a lane-b differ = (
-  its-kind a lane-a j known-j,
-  its-kind b lane-b k known-k,
-  record {
-    sound-s = is-sound a lane-a v j known-j;
-    sound-t = is-sound b lane-b v k known-k;
-    apart = apart j k known-j known-k a b lane-a lane-b differ;
-    two-left = omega (arith, counted-at-most v calls);
-  },
+  on-lane a lane-a j known-j,
+  on-lane b lane-b k known-k,
+  record { sound-s = is-sound a lane-a v j known-j; sound-t = is-sound b lane-b v k known-k; two-left = omega (arith, counted-at-most v calls) },
+  apart j k known-j known-k a b lane-a lane-b differ,
 )

@@ -1,14 +1,16 @@
 -- A record of each kind, written down: it is read back as it was, and is sound.
 -- Assumes nothing.
-use mathlib.Core.Path.{_≡_, sym, subst}
-use mathlib.Core.Bool.{false, _||_}
+use mathlib.Core.Path.{_≡_, sym, ap, subst}
+use mathlib.Core.Bool.{true, false, _||_}
 use mathlib.Core.List.{_∷_}
-use Prim.Native.Nat.{ℕ, _^_, _<_, _≤_}
+use Prim.Native.Nat.{ℕ, _%_, _^_, _<_, _≤_}
+use native.Mathlib.Nat.{div-self}
 use native.Mathlib.Omega.{arith}
 use lib.Dec.{leb, ltb, eqb}
 use lib.ListN.{length}
 use lib.Pow.{pow-pos, pow-mono, pow-lt}
 use borrow.Author.Tests.{le-ltb, lt-leb, eq-eqb, ne-eqb}
+use Rattle.katan.specs.Bit.{bit}
 use Rattle.katan.specs.Counter.{rounds}
 use Rattle.katan.specs.Key.{keyLength, keyOf}
 use Rattle.katan.specs.Variant.{widthOf}
@@ -29,6 +31,10 @@ in-word v x small = omega (arith, pow-mono {i = widthOf v} {j = 64} (sound v .n-
 
 pub lane-mask : (i : ℕ) → i < laneCount → 2 ^ i < 2 ^ 64
 lane-mask i lane = pow-lt {i = i} {j = 64} lane
+
+-- which names that lane
+pub own-bit : (i : ℕ) → eqb (bit (2 ^ i) i) 1 ≡ true
+own-bit i = eq-eqb (bit (2 ^ i) i) 1 (ap (λ (y : ℕ). y % 2) (div-self (pow-pos i)))
 
 module _ (n : ℕ) (number : n < 2 ^ 32) where
   -- ---- read back

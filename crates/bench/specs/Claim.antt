@@ -68,6 +68,10 @@ pub record Demand3 : Type 0 where
   pub one-list : EveryList
   pub two-lists : TwoLists
 
--- at last = 4,294,967,295 only a repeat is in turn, for any record of bytes
+-- the largest number of a record
+abbrev pub lastNumber : ℕ
+lastNumber = 4294967295
+
+-- at that last only a repeat is in turn, for any record of bytes
 abbrev pub OnlyRepeats : Type 0
-OnlyRepeats = (w : View) (s : List ℕ) → AreBytes s → w .last ≡ 4294967295 → (t : Turn) → decision w s ≡ value t → (t ≡ repeats) × (s ≡ w .latest)
+OnlyRepeats = (w : View) (s : List ℕ) → AreBytes s → w .last ≡ lastNumber → (t : Turn) → decision w s ≡ value t → (t ≡ repeats) × (s ≡ w .latest)

@@ -81,10 +81,16 @@ impl Run {
         }
     }
 
-    /// The same calls as one replay: the answers are the same. Gives the bench's bytes.
+    /// The same calls as one replay: the answers are the same, and so are the lanes. Gives the bench's
+    /// bytes.
     fn replayed(&self) -> [u8; BENCH_LENGTH] {
         let (answers, left) = replay(self.variant, &self.calls).unwrap();
         assert!(answers == self.answers, "the replay of {self}: {answers:?}");
+        let bench = katan_bench::Bench::from_bytes(left, [0; LINK_LENGTH]);
+        for lane in 0..records::LANES as u64 {
+            let (replayed, here) = (bench.read(lane), self.ours.read(lane));
+            assert_eq!(replayed, here, "lane {lane} in the replay of {self}");
+        }
         left
     }
 }
