@@ -52,9 +52,10 @@ module _ (r q : Record) where
   steps-apart [] i apart = (refl, refl)
   steps-apart (m ∷ ms) i apart =
       let here = apart i (omega arith) (omega arith) in
-      let rest = steps-apart ms (suc i) (λ j a b. apart j (omega arith) (omega arith)) in
-      (ap₂ _∷_ (one-lane (stepAs (kind q) q) m (names r i) (names q i) here (stepAs (kind r) r)) (rest .0),
-        ap₂ _+_ (unseen (stepAs (kind q) q) m (names r i) (names q i) here (movedAs (kind r) r)) (rest .1))
+      let rest = steps-apart ms (suc i) (λ j a b. apart j (omega arith) (omega arith)) in (
+        ap₂ _∷_ (one-lane (stepAs (kind q) q) m (names r i) (names q i) here (stepAs (kind r) r)) (rest .0),
+        ap₂ _+_ (unseen (stepAs (kind q) q) m (names r i) (names q i) here (movedAs (kind r) r)) (rest .1),
+      )
 
 -- ---- calls that come later
 
@@ -174,14 +175,15 @@ module _ (v : ℕ) (least : 1 ≤ v) (most : v ≤ 6) (calls : List Call) where
     both-answered =
         ap (modelAnswers v) in-turn ∙ next-answers v least most once t₂ second-sound second-number
         ∙ ap₂ (λ (before : List Answer) (a : Answer). before ++ a ∷ [])
-          (next-answers v least most calls s₁ first-sound first-number ∙ ap (λ (a : Answer). modelAnswers v calls ++ a ∷ []) first-answer) second-answer
+        (next-answers v least most calls s₁ first-sound first-number ∙ ap (λ (a : Answer). modelAnswers v calls ++ a ∷ []) first-answer) second-answer
         ∙ append-assoc (modelAnswers v calls) (value (done (last + 1) (totalNext v calls s)) ∷ []) _
 
     its-link : (benchAfter v (inTurn v calls s t) .link .bytes ≡ t₂) × (benchAfter v (inTurn v calls s t) .link .last ≡ last + 2)
     its-link =
-        let k = still-kept v (inTurn v calls s t) in
-        (subst (λ (c : List (List ℕ)). Latest c (benchAfter v (inTurn v calls s t) .link .bytes)) both-counted (k .latest),
-          k .last ∙ ap length both-counted ∙ omega arith)
+        let k = still-kept v (inTurn v calls s t) in (
+          subst (λ (c : List (List ℕ)). Latest c (benchAfter v (inTurn v calls s t) .link .bytes)) both-counted (k .latest),
+          k .last ∙ ap length both-counted ∙ omega arith,
+        )
 
   -- ---- either order
 

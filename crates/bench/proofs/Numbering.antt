@@ -87,8 +87,17 @@ withNumber n r =
 
 fields-with : (n : ℕ) (s : List ℕ) → 8 ≤ length s → n < 2 ^ 32 → decode (numbered n s) ≡ withNumber n (decode s)
 fields-with n s size lt =
-    rw (byte-before n s size 0 (omega arith), byte-before n s size 1 (omega arith), byte-before n s size 2 (omega arith), byte-before n s size 3 (omega arith), number-is n s size lt,
-      part-after n s size 0 8, part-after n s size 8 keyBytes, part-after n s size 18 8, part-after n s size 26 6)
+    rw (
+      byte-before n s size 0 (omega arith),
+      byte-before n s size 1 (omega arith),
+      byte-before n s size 2 (omega arith),
+      byte-before n s size 3 (omega arith),
+      number-is n s size lt,
+      part-after n s size 0 8,
+      part-after n s size 8 keyBytes,
+      part-after n s size 18 8,
+      part-after n s size 26 6,
+    )
 
 -- ---- and what no number changes
 
