@@ -2,7 +2,7 @@
 -- Assumes nothing.
 use mathlib.Core.Path.{_≡_, refl, sym, ap, _∙_}
 use mathlib.Core.Bool.{true≢false}
-use mathlib.Core.List.{List, [], _∷_, List·Memᴰ·head}
+use mathlib.Core.List.{[], _∷_, List·Memᴰ·head}
 use Prim.Native.Nat.{ℕ, _^_}
 use native.Mathlib.Omega.{arith}
 use lib.ListN.{getD}
@@ -15,13 +15,13 @@ use Rattle.bench_record.specs.Codec.{encode}
 use Rattle.bench_record.specs.Checks.{unknown, unused, wrongCount, noneNamed}
 use Rattle.bench.specs.declared.Bench.{Bench}
 use Rattle.bench.specs.Machine.{loaded, stepAs, movedAs, stepAll, totalOf}
-use Rattle.bench.specs.Calls.{Call, again, stateAfter, answersTo}
+use Rattle.bench.specs.Calls.{again, stateAfter, answersTo}
 use Rattle.bench.specs.Checks.{LaneView, emptyLane, loadedLane, laneFault, anyLaneFault, arrivalChecks, decision}
 use Rattle.bench.specs.Model.{freshModel, machineView, modelView, afterCounted, arrivalAs, modelTransition}
-use Rattle.bench.specs.Bench.{emptySlot, slotView, benchTransition}
+use Rattle.bench.specs.Bench.{emptySlot, slotView}
 use Rattle.bench.specs.Claim.{benchAfter, modelAfter, modelAnswers, machineAfter}
 use Rattle.bench.specs.Exchange.{numbered, Apart, NotSent, lastAfter, inTurn, NeitherSent, SameTotals, fiveLoaded, fiveForward, fiveBack, CommonLane, sixLoad, sixAgain, LaterRecord}
-use Rattle.bench.proofs.Lists.{same-calls, still-kept, every-list}
+use Rattle.bench.proofs.Lists.{same-more, every-list}
 use Rattle.bench.proofs.Written.{forward-sound, back-sound}
 
 record Computed : Type 0 where
@@ -79,15 +79,11 @@ common-lane =
       differ = lanes-differ;
     }
 
--- the bench answers as the model does
-same-answers : (calls more : List Call) → answersTo benchTransition (benchAfter 4 calls) more ≡ answersTo (modelTransition 4) (modelAfter 4 calls) more
-same-answers calls more = same-calls 4 more _ _ (still-kept 4 calls) .0
-
 -- THEOREM: the later of two records that are apart, sent again, tells the orders apart
 pub later-record : LaterRecord
 later-record =
     record {
-      own-order = same-answers (inTurn 4 fiveLoaded fiveForward sixLoad) sixAgain ∙ computed .own-order;
-      other-order = same-answers (inTurn 4 fiveLoaded sixLoad fiveForward) sixAgain ∙ computed .other-order;
+      own-order = same-more 4 (inTurn 4 fiveLoaded fiveForward sixLoad) sixAgain ∙ computed .own-order;
+      other-order = same-more 4 (inTurn 4 fiveLoaded sixLoad fiveForward) sixAgain ∙ computed .other-order;
       left-out = computed .left-out;
     }

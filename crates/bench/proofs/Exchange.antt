@@ -23,7 +23,7 @@ use Rattle.bench.specs.Claim.{benchAfter, benchAnswers, modelAfter, mode
 use Rattle.bench.specs.Laws.{SoundRecord, andArrival}
 use Rattle.bench.specs.Exchange.{numbered, Apart, NotSent, lastAfter, totalNext, bothDone, inTurn, NeitherSent, Ready, SameTotals, EitherOrder}
 use Rattle.bench.proofs.Turns.{repeats-last}
-use Rattle.bench.proofs.Lists.{Latest, same-calls, still-kept, same-bench}
+use Rattle.bench.proofs.Lists.{Latest, still-kept, same-more, same-bench}
 use Rattle.bench.proofs.Laws.{same, next-leaves, next-answers, counting}
 use Rattle.bench.proofs.Numbering.{its-number, numbered-sound, numbered-steps, numbered-total}
 
@@ -234,11 +234,10 @@ module _ (v : ℕ) (least : 1 ≤ v) (most : v ≤ 6) (calls : List Call) where
         same-later (x .bench) (x .link) (y .link) (a .1 ∙ sym (b .1)) more (rw (a .0) (none .1)) (rw (b .0) (none .0))
         ∙ ap (λ (z : Bench). answersTo benchTransition (record { bench = z; link = y .link }) more) alike
 
-    -- the bench answers as the model does
     model-later : (more : List Call) → NeitherSent v calls s t more
         → answersTo (modelTransition v) (modelAfter v (inTurn v calls s t)) more ≡ answersTo (modelTransition v) (modelAfter v (inTurn v calls t s)) more
     model-later more none =
-        sym (same-calls v more _ _ (still-kept v (inTurn v calls s t)) .0) ∙ bench-later more none ∙ same-calls v more _ _ (still-kept v (inTurn v calls t s)) .0
+        sym (same-more v (inTurn v calls s t) more) ∙ bench-later more none ∙ same-more v (inTurn v calls t s) more
 
 -- THEOREM: it does not matter who presses first
 pub either-order : EitherOrder

@@ -83,7 +83,7 @@ module _ (v : ℕ) where
 
   -- ---- every call
 
-  pub same-calls : (calls : List Call) (x : State) (m : Model) → Keeps x m
+  same-calls : (calls : List Call) (x : State) (m : Model) → Keeps x m
       → (answersTo benchTransition x calls ≡ answersTo (modelTransition v) m calls) × Keeps (stateAfter benchTransition x calls) (stateAfter (modelTransition v) m calls)
   unfolding answersTo stateAfter
   same-calls [] x m k = (refl, k)
@@ -101,6 +101,10 @@ module _ (v : ℕ) where
 
   pub still-kept : (calls : List Call) → Keeps (benchAfter v calls) (modelAfter v calls)
   still-kept calls = fresh-calls calls .1
+
+  -- calls that come later are answered as the model answers them
+  pub same-more : (calls more : List Call) → answersTo benchTransition (benchAfter v calls) more ≡ answersTo (modelTransition v) (modelAfter v calls) more
+  same-more calls more = same-calls more (benchAfter v calls) (modelAfter v calls) (still-kept calls) .0
 
   -- lists that leave the same machines leave the same bench, every lane's key included
   pub same-bench : (calls others : List Call) → modelAfter v calls .machines ≡ modelAfter v others .machines → benchAfter v calls .bench ≡ benchAfter v others .bench
