@@ -321,6 +321,14 @@ impl Bench {
         self.machines[lane as usize] == Machine::Empty
     }
 
+    /// The position of a lane from 0 to 63; none where it is empty.
+    pub fn position(&self, lane: usize) -> Option<u8> {
+        match self.machines[lane] {
+            Machine::Empty => None,
+            Machine::Loaded { p, .. } => Some(p),
+        }
+    }
+
     /// A lane's position and registers. 5: the lane is over 63; 11: it is empty.
     pub fn read(&self, lane: u64) -> Reading {
         if lane > 63 {

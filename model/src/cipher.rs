@@ -278,6 +278,19 @@ pub fn registers_at(variant: Variant, key: &[u8; 10], from: u8, to: u8, block: u
     unload(&registers)
 }
 
+/// The registers at positions 0 to 254, where those at position 0 are `block`: one round after the
+/// other, all of them forward.
+pub fn trace(variant: Variant, key: &[u8; 10], block: u64) -> Vec<u64> {
+    assert!(variant.is_block(block));
+    let mut registers = load(variant, block);
+    let mut trace = vec![block];
+    for (round, k) in (0..).zip(subkeys(variant, key)) {
+        registers = round_forward(variant, round, k, registers);
+        trace.push(unload(&registers));
+    }
+    trace
+}
+
 pub fn encrypt(variant: Variant, key: &[u8; 10], block: u64) -> u64 {
     registers_at(variant, key, 0, ROUNDS, block)
 }
@@ -446,6 +459,25 @@ mod tests {
                     registers_at(variant, &key, q, r, at_q),
                     registers_at(variant, &key, p, r, block)
                 );
+            }
+        }
+    }
+
+    /// A trace has the registers of every position, and from each of them all others are found.
+    #[test]
+    fn traces() {
+        let mut random = Random::new(4);
+        for variant in Variant::ALL {
+            let key = random.key();
+            let block = random.bits(variant.width());
+            let trace = trace(variant, &key, block);
+            assert_eq!(trace.len(), 255);
+            let from = random.below(255) as u8;
+            for to in 0..=254 {
+                for from in [0, from, 254] {
+                    let registers = registers_at(variant, &key, from, to, trace[from as usize]);
+                    assert_eq!(registers, trace[to as usize]);
+                }
             }
         }
     }

@@ -16,5 +16,5 @@ pub mod vectors;
 
 pub use bench::{Bench, Reading, Reply};
 pub use calls::Refusal;
-pub use cipher::{decrypt, encrypt, registers_at, Variant, ROUNDS};
+pub use cipher::{decrypt, encrypt, registers_at, trace, Variant, ROUNDS};
 pub use random::Random;
