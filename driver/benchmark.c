@@ -154,20 +154,48 @@ static void arrive(const uint8_t *record) {
     must(katan_arrive(bench, sizeof bench, linked, sizeof linked, record, KATAN_RECORD_LENGTH, answer, 3) == 0, "an arrival was refused");
 }
 
-static void move_record(uint8_t *record, uint32_t number, uint64_t mask, uint8_t count) {
+static void move_record(uint8_t *record, uint8_t kind, uint32_t number, uint64_t mask, uint8_t count) {
     memset(record, 0, KATAN_RECORD_LENGTH);
-    record[0] = 2;
+    record[0] = kind;
     record[2] = count;
     put(record + 4, number, 4);
     put(record + 8, mask, 8);
+}
+
+// Random keys and blocks, loaded at 0 into the 64 lanes of a bench that is kept.
+static void load_and_keep(int variant) {
+    uint8_t record[KATAN_RECORD_LENGTH];
+    fill(variant);
+    must(katan_open(variant, bench, sizeof bench, linked, sizeof linked) == 0, "opening was refused");
+    for (int lane = 0; lane < LANES; lane++) {
+        memset(record, 0, sizeof record);
+        record[0] = KATAN_LOAD;
+        record[1] = lane;
+        put(record + 4, lane + 1, 4);
+        memcpy(record + 16, keys + 10 * lane, 10);
+        put(record + 26, blocks[lane], 8);
+        arrive(record);
+    }
+    memcpy(kept, bench, sizeof kept);
+    memcpy(kept_link, linked, sizeof kept_link);
+}
+
+static void take_kept(void) {
+    memcpy(bench, kept, sizeof bench);
+    memcpy(linked, kept_link, sizeof linked);
+}
+
+static void must_be_at(int lane, uint64_t position, uint64_t registers) {
+    uint64_t read[2];
+    must(katan_read(bench, sizeof bench, lane, read, 2) == 0, "a read was refused");
+    must(read[0] == position && read[1] == registers, "results differ");
 }
 
 // The best time of an arrival on the bench that is kept.
 static double arrival_time(const uint8_t *record) {
     double best = 1e18;
     for (int repeat = 0; repeat < REPEATS; repeat++) {
-        memcpy(bench, kept, sizeof bench);
-        memcpy(linked, kept_link, sizeof linked);
+        take_kept();
         double start = nanoseconds();
         arrive(record);
         double taken = nanoseconds() - start;
@@ -182,23 +210,10 @@ static void bench_table(void) {
     for (int variant = 1; variant <= 6; variant++) {
         uint8_t record[KATAN_RECORD_LENGTH];
         uint64_t read[2];
-        fill(variant);
-        must(katan_open(variant, bench, sizeof bench, linked, sizeof linked) == 0, "opening was refused");
-        for (int lane = 0; lane < LANES; lane++) {
-            memset(record, 0, sizeof record);
-            record[0] = 1;
-            record[1] = lane;
-            put(record + 4, lane + 1, 4);
-            memcpy(record + 16, keys + 10 * lane, 10);
-            put(record + 26, blocks[lane], 8);
-            arrive(record);
-        }
-        memcpy(kept, bench, sizeof kept);
-        memcpy(kept_link, linked, sizeof kept_link);
-
-        move_record(record, LANES + 1, 1, 1);
+        load_and_keep(variant);
+        move_record(record, KATAN_FORWARD, LANES + 1, 1, 1);
         double step = arrival_time(record);
-        move_record(record, LANES + 1, UINT64_MAX, 254);
+        move_record(record, KATAN_FORWARD, LANES + 1, UINT64_MAX, 254);
         double all = arrival_time(record);
 
         double plain = 1e18, reading = 1e18;
@@ -211,11 +226,65 @@ static void bench_table(void) {
             if (middle - start < plain) plain = middle - start;
             if (end - middle < reading) reading = end - middle;
         }
-        for (int lane = 0; lane < LANES; lane++) {
-            must(katan_read(bench, sizeof bench, lane, read, 2) == 0, "a read was refused");
-            must(read[0] == 254 && read[1] == expected[lane], "results differ");
-        }
+        for (int lane = 0; lane < LANES; lane++) must_be_at(lane, 254, expected[lane]);
         printf("%-9d %-26.0f %-38.2f %.0f\n", variant, step, plain / all, reading);
+    }
+}
+
+// ---- a sheet of traces: single steps of all lanes, 254 forward and 254 back. Plain C writes out a lane's key bits once
+// and stores the registers after each round, lane by lane.
+
+enum { STEPS = 2 * KATAN_ROUNDS, SHEETS = 20 };
+
+static uint8_t steps[STEPS][KATAN_RECORD_LENGTH];
+static uint64_t sheet[LANES][STEPS];  // the registers after each step, by plain C
+
+static int forward(int step) { return step < KATAN_ROUNDS; }
+
+static void compare_sheets(int variant) {
+    peer_sheet(variant, keys, blocks, sheet[0], LANES);
+    peer_scalar(variant, 0, keys, blocks, expected, LANES);
+    for (int lane = 0; lane < LANES; lane++) {
+        must(sheet[lane][KATAN_ROUNDS - 1] == expected[lane] && sheet[lane][STEPS - 1] == blocks[lane], "results differ");
+    }
+    for (int i = 0; i < STEPS; i++) {
+        arrive(steps[i]);
+        for (int lane = 0; lane < LANES; lane++) must_be_at(lane, forward(i) ? i + 1 : STEPS - 1 - i, sheet[lane][i]);
+    }
+}
+
+static void sheet_table(void) {
+    printf("\nA sheet of traces: 64 lanes loaded at 0, 254 single steps of all lanes forward and 254 back\n");
+    printf("variant   a step: mean (us)   dearest (us)   the sheet (us)   times as long as plain C\n");
+    for (int i = 0; i < STEPS; i++) {
+        move_record(steps[i], forward(i) ? KATAN_FORWARD : KATAN_BACK, LANES + 1 + i, UINT64_MAX, 1);
+    }
+    for (int variant = 1; variant <= 6; variant++) {
+        double best[STEPS], ours = 1e18, plain = 1e18;
+        for (int i = 0; i < STEPS; i++) best[i] = 1e18;
+        load_and_keep(variant);
+        compare_sheets(variant);
+        for (int repeat = 0; repeat < SHEETS; repeat++) {
+            take_kept();
+            double start = nanoseconds(), before = start;
+            for (int i = 0; i < STEPS; i++) {
+                arrive(steps[i]);
+                double now = nanoseconds();
+                if (now - before < best[i]) best[i] = now - before;
+                before = now;
+            }
+            if (before - start < ours) ours = before - start;
+            start = nanoseconds();
+            peer_sheet(variant, keys, blocks, sheet[0], LANES);
+            double taken = nanoseconds() - start;
+            if (taken < plain) plain = taken;
+        }
+        double sum = 0, dearest = 0;
+        for (int i = 0; i < STEPS; i++) {
+            sum += best[i];
+            if (best[i] > dearest) dearest = best[i];
+        }
+        printf("%-9d %-19.2f %-14.2f %-16.0f %.1f\n", variant, sum / STEPS / 1000, dearest / 1000, ours / 1000, ours / plain);
     }
 }
 
@@ -225,5 +294,6 @@ int main(void) {
     blocks_table(1);
     message_table(KATAN_LONGEST_DATA);
     bench_table();
+    sheet_table();
     return 0;
 }

@@ -39,8 +39,9 @@ static void round_keys(int variant, const u8 *key, u8 *k) {
 
 #define BIT(l, i) ((l) >> (i) & 1)
 
+// The registers after each round are stored too, unless `stored` is NULL.
 INLINE u64 scalar(int len1, int len2, int x2, int x3, int x4, int x5, int y2, int y3, int y4, int y5, int y6, int clocks,
-                  int decrypt, const u8 *k, u64 block) {
+                  int decrypt, const u8 *k, u64 block, u64 *stored) {
     int x1 = len1 - 1, y1 = len2 - 1;
     u64 mask1 = ((u64)1 << len1) - 1, mask2 = ((u64)1 << len2) - 1;
     u64 l1 = block >> len2, l2 = block & mask2;
@@ -63,23 +64,24 @@ INLINE u64 scalar(int len1, int len2, int x2, int x3, int x4, int x5, int y2, in
                 l2 |= fb << y1;
             }
         }
+        if (stored) stored[i] = l1 << len2 | l2;
     }
     return l1 << len2 | l2;
 }
 
 // One block with the key bits of all rounds at hand.
-INLINE u64 keyed(int variant, int decrypt, const u8 *k, u64 block) {
+INLINE u64 keyed(int variant, int decrypt, const u8 *k, u64 block, u64 *stored) {
     switch (variant) {
-    case 1: case 4: return scalar(13, 19, 7, 8, 5, 3, 7, 12, 10, 8, 3, 1, decrypt, k, block);
-    case 2: case 5: return scalar(19, 29, 12, 15, 7, 6, 19, 21, 13, 15, 6, 2, decrypt, k, block);
-    default: return scalar(25, 39, 15, 20, 11, 9, 25, 33, 21, 14, 9, 3, decrypt, k, block);
+    case 1: case 4: return scalar(13, 19, 7, 8, 5, 3, 7, 12, 10, 8, 3, 1, decrypt, k, block, stored);
+    case 2: case 5: return scalar(19, 29, 12, 15, 7, 6, 19, 21, 13, 15, 6, 2, decrypt, k, block, stored);
+    default: return scalar(25, 39, 15, 20, 11, 9, 25, 33, 21, 14, 9, 3, decrypt, k, block, stored);
     }
 }
 
 INLINE u64 one(int variant, int decrypt, const u8 *key, u64 block) {
     u8 k[ROUND_KEYS];
     round_keys(variant, key, k);
-    return keyed(variant, decrypt, k, block);
+    return keyed(variant, decrypt, k, block, NULL);
 }
 
 uint64_t peer_one(int variant, int decrypt, const uint8_t *key, uint64_t block) {
@@ -88,6 +90,15 @@ uint64_t peer_one(int variant, int decrypt, const uint8_t *key, uint64_t block) 
 
 void peer_scalar(int variant, int decrypt, const u8 *keys, const u64 *blocks, u64 *out, size_t count) {
     for (size_t i = 0; i < count; i++) out[i] = peer_one(variant, decrypt, keys + 10 * i, blocks[i]);
+}
+
+void peer_sheet(int variant, const u8 *keys, const u64 *blocks, u64 *sheet, size_t count) {
+    for (size_t i = 0; i < count; i++, sheet += 2 * ROUNDS) {
+        u8 k[ROUND_KEYS];
+        round_keys(variant, keys + 10 * i, k);
+        u64 last = keyed(variant, 0, k, blocks[i], sheet);
+        keyed(variant, 1, k, last, sheet + ROUNDS);
+    }
 }
 
 // ---- counter mode, one block at a time, low byte first: the key bits are made once
@@ -99,7 +110,7 @@ void peer_keystream(int variant, const u8 *key, u64 start, const u8 *data, u8 *o
     size_t size = width(variant) / 8;
     round_keys(variant, key, k);
     for (size_t at = 0; at < length; at += size) {
-        u64 block = keyed(variant, 0, k, start++);
+        u64 block = keyed(variant, 0, k, start++, NULL);
         for (size_t j = at; j < at + size && j < length; j++, block >>= 8) out[j] = data[j] ^ (u8)block;
     }
 }

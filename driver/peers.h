@@ -24,6 +24,10 @@ many_blocks peer_sliced_transposed;
 // One block, as peer_scalar does it.
 uint64_t peer_one(int variant, int decrypt, const uint8_t *key, uint64_t block);
 
+// Traces with peer_scalar's code, one block after the other: all rounds forward and all of them back, the key bits made
+// once. Elements 508i to 508i + 507 of the sheet are block i's registers after each round.
+void peer_sheet(int variant, const uint8_t *keys, const uint64_t *blocks, uint64_t *sheet, size_t count);
+
 // Counter mode with peer_scalar's code, one block at a time: the key bits are made once for the message.
 void peer_keystream(int variant, const uint8_t *key, uint64_t start, const uint8_t *data, uint8_t *out, size_t length);
 
