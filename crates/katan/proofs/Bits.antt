@@ -10,9 +10,8 @@ use lib.Arith.{bin-ind}
 use lib.Pow.{pow-pos, pow-add, pow-mono, field, mod-mod-pow, shl-exact, shr-shr, shl-shr, shr-lt, high, low}
 use lib.Bits.{and-lt, xor-lt, xor-shr, xor-mod, and-shr, and-mod, and-block, xor-comm, xor-self, xor-zero-r}
 use lib.Dec.{lit<}
-use Rattle.katan.specs.Bit.{bit, xor, and}
+use Rattle.katan.specs.Bit.{bit, xor, and, fromBits}
 use Rattle.katan.specs.Clock.{fa, fb, faRest, fbRest}
-use Rattle.katan.specs.inner.FromBits.{fromBits}
 use Rattle.katan.specs.declared.Row.{Row}
 
 -- `1 << w` is 2 ^ w

@@ -6,12 +6,13 @@ use mathlib.Core.List.{List, [], _∷_, _++_}
 use Prim.Native.Nat.{ℕ, zero, suc, _+_, _-_, _*_, _<_, _≤_}
 use native.Mathlib.Nat.{add-zero, add-suc}
 use native.Mathlib.Omega.{arith}
-use borrow.Author.Tests.{le-leb, lt-leb}
+use borrow.Author.Tests.{leb-true, leb-false, le-leb, lt-leb}
+use lib.Dec.{leb}
 use lib.ListN.{length, getD, length-append, List·getD-append}
 use lib.Seq.{getD-at}
 use Rattle.katan.specs.Bit.{bit, xor, pick, tabulate}
 use Rattle.katan.specs.Counter.{counter, irOf, rounds}
-use Rattle.katan.specs.Key.{keyLength, keyBitNumber, kRule, kList, roundKeys, keyBits, k}
+use Rattle.katan.specs.Key.{keyLength, keyBitNumber, kRule, kList, kAt, roundKeys, keyBits, k}
 use Rattle.katan.specs.Variant.{isKatan, lastKatan}
 use Rattle.katan.specs.Clock.{inputOf}
 use Rattle.katan.specs.inner.Within.{Bits}
@@ -38,22 +39,29 @@ module _ {B : Type 0} (_⊕_ : B → B → B) (z : B) (key : List B) (h : length
       ∙ List·getD-append (list (m + j)) _ z i (omega (arith, length-k (m + j)))
       ∙ longer m i q j
 
-  agree : (m i : ℕ) → m ≤ (2 * rounds - keyLength) → i < m + keyLength → getD (list (2 * rounds - keyLength)) i z ≡ getD (list m) i z
-  agree m i p q =
-      let e : (2 * rounds - keyLength) ≡ m + ((2 * rounds - keyLength) - m) = omega arith in
-      ap (λ (y : ℕ). getD (list y) i z) e ∙ longer m i q ((2 * rounds - keyLength) - m)
-
-  pub k-low : (i : ℕ) → i < keyLength → getD (kList _⊕_ z key (2 * rounds - keyLength)) i z ≡ getD key i z
+  -- each list that reaches k(i) holds it
+  pub k-entry : (m i : ℕ) → i < m + keyLength → getD (kList _⊕_ z key m) i z ≡ kAt _⊕_ z key i
   unfolding list
-  k-low i q = agree 0 i (omega arith) (omega arith)
+  k-entry m i q = by-length (leb m i) refl
+    where
+      by-length : (b : Bool) → leb m i ≡ b → getD (list m) i z ≡ getD (list i) i z
+      by-length true s =
+          let e : m + (i - m) ≡ i = omega (arith, leb-true m i s) in
+          sym (longer m i q (i - m)) ∙ ap (λ (y : ℕ). getD (list y) i z) e
+      by-length false s =
+          let e : i + (m - i) ≡ m = omega (arith, leb-false m i s) in
+          ap (λ (y : ℕ). getD (list y) i z) (sym e) ∙ longer i i (omega arith) (m - i)
 
-  pub k-rule : (i : ℕ) → keyLength ≤ i → i < 2 * rounds → getD (kList _⊕_ z key (2 * rounds - keyLength)) i z ≡ kRule _⊕_ (λ j. getD (kList _⊕_ z key (2 * rounds - keyLength)) j z) i
+  pub k-low : (i : ℕ) → i < keyLength → kAt _⊕_ z key i ≡ getD key i z
+  k-low i q = sym (k-entry 0 i (omega arith))
+
+  pub k-rule : (i : ℕ) → keyLength ≤ i → kAt _⊕_ z key i ≡ kRule _⊕_ (kAt _⊕_ z key) i
   unfolding list
-  k-rule i p q =
+  k-rule i p =
       let m = i - 80 in
       let e : i ≡ m + keyLength = omega arith in
-      let l : (d : ℕ) → 13 ≤ d → getD (list m) (i - d) z ≡ getD (list (2 * rounds - keyLength)) (i - d) z = λ d g. sym (agree m (i - d) (omega arith) (omega arith)) in
-      agree (suc m) i (omega arith) (omega arith)
+      let l : (d : ℕ) → 13 ≤ d → getD (list m) (i - d) z ≡ kAt _⊕_ z key (i - d) = λ d g. k-entry m (i - d) (omega arith) in
+      sym (k-entry (suc m) i (omega arith))
       ∙ ap (λ (y : ℕ). getD (list (suc m)) y z) e
       ∙ getD-at (list m) _ [] z (m + keyLength) (length-k m)
       ∙ ap (kRule _⊕_ (λ j. getD (list m) j z)) (sym e)
@@ -71,9 +79,9 @@ module _ (key : ℕ) where
   k-key i q = k-low xor 0 (keyBits key) key-length i q ∙ entry (bit key) keyLength i 0 q
 
   -- then k(i - 80) xor k(i - 61) xor k(i - 50) xor k(i - 13)
-  pub k-next : (i : ℕ) → keyLength ≤ i → i < 2 * rounds → k key i ≡ kRule xor (k key) i
+  pub k-next : (i : ℕ) → keyLength ≤ i → k key i ≡ kRule xor (k key) i
   unfolding k
-  k-next i p q = k-rule xor 0 (keyBits key) key-length i p q
+  k-next i p = k-rule xor 0 (keyBits key) key-length i p
 
 -- ---- what holds of 0 and of each key bit, and is kept by xor, holds of each bit of a list of round keys
 
@@ -109,7 +117,7 @@ pub k-bit : (key i : ℕ) → k key i < 2
 unfolding k
 k-bit key i =
     let b : (a c : ℕ) → a < 2 → c < 2 → xor a c < 2 = λ a c p q. xor-bit p q in
-    k-each (λ x. x < 2) (omega arith) b (keyBits key) (tabulated (λ x. x < 2) (omega arith) b (bit key) (bit-lt key) keyLength 0) (2 * rounds - keyLength) i
+    k-each (λ x. x < 2) (omega arith) b (keyBits key) (tabulated (λ x. x < 2) (omega arith) b (bit key) (bit-lt key) keyLength 0) i i
 
 -- a round's IR, ka and kb are bits
 pub input-bits : (v key r : ℕ) → Bits (inputOf v key r)
@@ -133,9 +141,14 @@ chosen c b e ks key i j = rw e
 abbrev input : ℕ → ℕ → ℕ → RoundInput
 input r x y = record { ir = irOf (counter r); ka = x; kb = y }
 
-pub katan-input : (v key r : ℕ) → v ≤ lastKatan → inputOf v key r ≡ record { ir = irOf (counter r); ka = k key (2 * r); kb = k key (2 * r + 1) }
+pub katan-input : (v key r : ℕ) → v ≤ lastKatan → r < rounds → inputOf v key r ≡ record { ir = irOf (counter r); ka = k key (2 * r); kb = k key (2 * r + 1) }
 unfolding inputOf k
-katan-input v key r h = ap₂ (input r) (chosen (isKatan v) true (le-leb v lastKatan h) _ _ _ _) (chosen (isKatan v) true (le-leb v lastKatan h) _ _ _ _)
+katan-input v key r h q =
+    let at : (i : ℕ) → i < 2 * rounds → getD (kList xor 0 (keyBits key) (2 * rounds - keyLength)) i 0 ≡ kAt xor 0 (keyBits key) i
+    = λ i l. k-entry xor 0 (keyBits key) (key-length key) (2 * rounds - keyLength) i (omega arith) in
+    ap₂ (input r)
+    (chosen (isKatan v) true (le-leb v lastKatan h) _ _ _ _ ∙ at (2 * r) (omega arith))
+    (chosen (isKatan v) true (le-leb v lastKatan h) _ _ _ _ ∙ at (2 * r + 1) (omega arith))
 
 pub ktantan-input : (v key r : ℕ) → lastKatan < v → r < rounds
     → inputOf v key r ≡ record { ir = irOf (counter r); ka = bit key (keyBitNumber (2 * r)); kb = bit key (keyBitNumber (2 * r + 1)) }

@@ -6,9 +6,9 @@ use mathlib.Core.List.{List, [], _∷_}
 use Prim.Native.Nat.{ℕ, zero, suc, _+_, _-_, _*_, _^_, zero-le}
 use native.Mathlib.Nat.{zero-mod, zero-div, zero-mul}
 use native.Mathlib.Omega.{arith}
-use lib.Dec.{T, eqb, eqb→eq, leb, ltb, leb→le, ltb→lt}
+use lib.Dec.{T, eqb, eqb→eq, leb, leb→le}
 use Rattle.katan.specs.Bit.{xor}
-use Rattle.katan.specs.Counter.{counter, irOf, rounds}
+use Rattle.katan.specs.Counter.{counter, irOf}
 use Rattle.katan.specs.Key.{k, keyLength, keyBitNumber}
 use Rattle.katan.specs.Variant.{rowOf}
 use Rattle.katan.specs.Clock.{clock, clocks, run, round, block, registers, inputOf}
@@ -50,7 +50,7 @@ passes (counts r t) = eqb (counter r) t
 passes (irregular r ir) = eqb (irOf (counter r)) ir
 passes (picks r a b) = both (eqb (keyBitNumber (2 * r)) a) (eqb (keyBitNumber (2 * r + 1)) b)
 passes (follows i a b c d) =
-    both (both (leb keyLength i) (ltb i (2 * rounds))) (both (both (eqb (i - 80) a) (eqb (i - 61) b)) (both (eqb (i - 50) c) (eqb (i - 13) d)))
+    both (leb keyLength i) (both (both (eqb (i - 80) a) (eqb (i - 61) b)) (both (eqb (i - 50) c) (eqb (i - 13) d)))
 passes (rests v) = true
 passes (reaches v key x p y) = eqb (forward v key 0 p x) y
 
@@ -73,12 +73,11 @@ says (follows i a b c d) p = λ key.
     let g = eqb (i - 50) c in
     let h = eqb (i - 13) d in
     let lo = leb keyLength i in
-    let hi = ltb i (2 * rounds) in
-    let r = both-left (both lo hi) (both (both e f) (both g h)) p in
-    let s = both-right (both lo hi) (both (both e f) (both g h)) p in
+    let r = both-left lo (both (both e f) (both g h)) p in
+    let s = both-right lo (both (both e f) (both g h)) p in
     let t = both-left (both e f) (both g h) s in
     let w = both-right (both e f) (both g h) s in
-    k-next key i (leb→le keyLength i (both-left lo hi r)) (ltb→lt i (2 * rounds) (both-right lo hi r))
+    k-next key i (leb→le keyLength i r)
     ∙ ap₂ xor
     (ap₂ xor (ap₂ xor (ap (k key) (eqb→eq (i - 80) a (both-left e f t))) (ap (k key) (eqb→eq (i - 61) b (both-right e f t))))
     (ap (k key) (eqb→eq (i - 50) c (both-left g h w))))

@@ -25,6 +25,11 @@ abbrev pub tabulate : {A : Type 0} → (ℕ → A) → ℕ → ℕ → List A
 tabulate f i zero = []
 tabulate f i (suc n) = f i ∷ tabulate f (suc i) n
 
+-- the number of n bits whose bit i is f i
+unfoldable pub fromBits : (ℕ → ℕ) → ℕ → ℕ
+fromBits f zero = 0
+fromBits f (suc n) = f n * 2 ^ n + fromBits f n
+
 -- the numbers of a list are bytes
 abbrev pub AreBytes : List ℕ → Type 0
 AreBytes xs = (j : ℕ) → getD xs j 0 < 2 ^ 8

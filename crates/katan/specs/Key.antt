@@ -47,6 +47,10 @@ module _ {B : Type 0} (_⊕_ : B → B → B) (z : B) where
       let ks = kList key m in
       ks ++ (kRule _⊕_ (λ j. getD ks j z) (m + keyLength) ∷ [])
 
+  -- k(i), for every i: entry i of the list k(0) .. k(79 + i)
+  abbrev pub kAt : List B → ℕ → B
+  kAt key i = getD (kList key i) i z
+
   -- what a variant's rounds take their key bits from: a KATAN's k(0) .. k(507), a KTANTAN's key
   abbrev pub roundKeys : ℕ → List B → List B
   roundKeys v key = pick (isKatan v) (kList key (2 * rounds - keyLength)) key
@@ -64,6 +68,6 @@ module _ {B : Type 0} (z : B) where
 abbrev pub keyBits : ℕ → List ℕ
 keyBits key = tabulate (bit key) 0 keyLength
 
--- k(i), for i below 508
+-- k(i) of a key, for every i
 unfoldable pub k : ℕ → ℕ → ℕ
-k key i = getD (kList xor 0 (keyBits key) (2 * rounds - keyLength)) i 0
+k key i = kAt xor 0 (keyBits key) i

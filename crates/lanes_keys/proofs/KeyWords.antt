@@ -18,9 +18,9 @@ module _ (key : List ℕ) (n : length key ≡ keyLength) where
   unfolding kWord
   k-word-low i q = k-low xor 0 key n i q
 
-  pub k-word-next : (i : ℕ) → keyLength ≤ i → i < 2 * rounds → kWord key i ≡ kRule xor (kWord key) i
+  pub k-word-next : (i : ℕ) → keyLength ≤ i → kWord key i ≡ kRule xor (kWord key) i
   unfolding kWord
-  k-word-next i p q = k-rule xor 0 key n i p q
+  k-word-next i p = k-rule xor 0 key n i p
 
 module _ (v : ℕ) (key : List ℕ) where
   pub from-entries : (words : List ℕ) → length words ≡ 2 * rounds → Entries (roundWord v key) (2 * rounds) words → words ≡ roundWords v key

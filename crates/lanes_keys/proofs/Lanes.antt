@@ -56,9 +56,9 @@ module _ (j key : ℕ) (words : List ℕ) (len : length words ≡ keyLength) (h 
   k-lane : (i : ℕ) → bit (kWord words i) j ≡ k key i
   unfolding kWord k
   k-lane i =
-      map-at xor 0 xor 0 (λ x. bit x j) (λ a b. bit-xor a b j) (bit-zero j) (kList xor 0 words (2 * rounds - keyLength)) i
+      map-at xor 0 xor 0 (λ x. bit x j) (λ a b. bit-xor a b j) (bit-zero j) (kList xor 0 words i) i
       ∙ ap (λ (l : List ℕ). getD l i 0)
-      (k-map xor 0 xor 0 (λ x. bit x j) (λ a b. bit-xor a b j) (bit-zero j) words (2 * rounds - keyLength) ∙ ap (λ (l : List ℕ). kList xor 0 l (2 * rounds - keyLength)) key-lane)
+      (k-map xor 0 xor 0 (λ x. bit x j) (λ a b. bit-xor a b j) (bit-zero j) words i ∙ ap (λ (l : List ℕ). kList xor 0 l i) key-lane)
 
   -- word i of the rounds, by the kind of variant
   round-lane : (v i : ℕ) → i < 2 * rounds → (b : Bool) → isKatan v ≡ b → bit (getD (roundWords v words) i 0) j ≡ pick b (k key i) (bit key (keyBitNumber i))
@@ -77,6 +77,6 @@ module _ (j key : ℕ) (words : List ℕ) (len : length words ≡ keyLength) (h 
     where
       by-kind : (b : Bool) → isKatan v ≡ b → input r (bit (getD (roundWords v words) (2 * r) 0) j) (bit (getD (roundWords v words) (2 * r + 1) 0) j) ≡ inputOf v key r
       by-kind true e =
-          ap₂ (input r) (round-lane v (2 * r) (omega arith) true e) (round-lane v (2 * r + 1) (omega arith) true e) ∙ sym (katan-input v key r (leb-true v lastKatan e))
+          ap₂ (input r) (round-lane v (2 * r) (omega arith) true e) (round-lane v (2 * r + 1) (omega arith) true e) ∙ sym (katan-input v key r (leb-true v lastKatan e) q)
       by-kind false e =
           ap₂ (input r) (round-lane v (2 * r) (omega arith) false e) (round-lane v (2 * r + 1) (omega arith) false e) ∙ sym (ktantan-input v key r (leb-false v lastKatan e) q)

@@ -1,16 +1,16 @@
 -- The key words that the rounds use (document 01, "Key bits", at words): bit j of each word belongs to lane j.
 -- Assumes nothing.
-use Prim.Native.Nat.{ℕ, _-_, _*_}
+use Prim.Native.Nat.{ℕ, _*_}
 use mathlib.Core.List.{List}
 use lib.ListN.{getD}
 use Rattle.katan.specs.Bit.{xor, pick, tabulate}
 use Rattle.katan.specs.Counter.{rounds}
-use Rattle.katan.specs.Key.{keyLength, kList, keyBitNumber}
+use Rattle.katan.specs.Key.{kAt, keyBitNumber}
 use Rattle.katan.specs.Variant.{isKatan}
 
--- k(i), at words
+-- k(i), at words, for every i
 unfoldable pub kWord : List ℕ → ℕ → ℕ
-kWord key i = getD (kList xor 0 key (2 * rounds - keyLength)) i 0
+kWord key i = kAt xor 0 key i
 
 -- word i of them, ka of round i div 2 and then its kb: KATAN's k(i), or the key word that KTANTAN's table names.
 -- A variant number that is 0 is taken as a KATAN, one above 6 as a KTANTAN.

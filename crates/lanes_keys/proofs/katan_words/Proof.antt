@@ -29,8 +29,8 @@ returns c =
     let n : length key ≡ keyLength = search needs in
     let first = c .before .before .before .before .first-words in
     c .extend2 .ensures .1 (kWord key)
-    (c .before .before .extend .ensures .1 (kWord key) (λ i p. first .ensures i p ∙ sym (k-word-low key n i p)) (λ i p q. k-word-next key n i p (omega arith)))
-    (doubled (kWord key) (2 * rounds) (λ i p q. k-word-next key n i p q))
+    (c .before .before .extend .ensures .1 (kWord key) (λ i p. first .ensures i p ∙ sym (k-word-low key n i p)) (λ i p q. k-word-next key n i p))
+    (doubled (kWord key) (2 * rounds) (λ i p q. k-word-next key n i p))
 
 pub katan-words-spec : {M : Type 1} → statement M
 katan-words-spec =
