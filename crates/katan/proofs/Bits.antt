@@ -1,8 +1,8 @@
 -- Bits, numbers from their bits, and the formulas on bits: bits in, a bit out.
 -- Assumes nothing.
-use mathlib.Core.Path.{_≡_, refl, sym, ap, ap₂, _∙_}
+use mathlib.Core.Path.{_≡_, refl, sym, ap, ap₂, subst, _∙_}
 use Prim.Native.Nat.{ℕ, zero, suc, _+_, _-_, _*_, _/_, _%_, _^_, _<_, _≤_}
-use native.Mathlib.Nat.{mod-lt, mod-eq-of-lt, zero-div, div-one, div-eq-of-lt, div-add-mod', one-mul, add-zero, lt-of-lt-of-le}
+use native.Mathlib.Nat.{mod-lt, mod-eq-of-lt, zero-div, div-one, div-eq-of-lt, div-add-mod', one-mul, add-zero, add-comm, lt-of-lt-of-le, div-lt-iff-lt-mul}
 use native.Mathlib.Numerals.{add-one, one-add}
 use native.Mathlib.Omega.{arith}
 use borrow.Author.Count.{below-more}
@@ -58,14 +58,13 @@ module _ (m h : ℕ) {l : ℕ} (q : l < 2 ^ m) where
   pub bit-above : (i : ℕ) → bit (h * 2 ^ m + l) (m + i) ≡ bit h i
   bit-above i = ap (λ (y : ℕ). y % 2) (sym (shr-shr (h * 2 ^ m + l) m i)) ∙ ap (λ (y : ℕ). bit y i) (high h m q)
 
-  -- one bit above them
+  -- with j bits above them it has j + m
+  pub joined-lt : (j : ℕ) → h < 2 ^ j → h * 2 ^ m + l < 2 ^ (j + m)
+  joined-lt j p =
+      subst (λ (x : ℕ). h * 2 ^ m + l < x) (sym (pow-add 2 j m)) (div-lt-iff-lt-mul (pow-pos m) .0 (subst (λ (x : ℕ). x < 2 ^ j) (sym (high h m q)) p))
+
   pub top-lt : h < 2 → h * 2 ^ m + l < 2 ^ (m + 1)
-  top-lt p = top-of h p
-    where
-      top-of : (b : ℕ) → b < 2 → b * 2 ^ m + l < 2 ^ (m + 1)
-      top-of zero p = omega (arith, pow-add 2 m 1, q)
-      top-of (suc zero) p = omega (arith, pow-add 2 m 1, q)
-      top-of (suc (suc b)) p = absurd (omega arith)
+  top-lt p = subst (λ (x : ℕ). h * 2 ^ m + l < 2 ^ x) (add-comm 1 m) (joined-lt 1 p)
 
   pub bit-top : h < 2 → bit (h * 2 ^ m + l) m ≡ h
   bit-top p = ap (λ (y : ℕ). y % 2) (high h m q) ∙ mod-eq-of-lt p

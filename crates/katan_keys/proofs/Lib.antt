@@ -1,1 +1,3 @@
-pub mod RoundBits
+pub mod Running
+pub mod Words
+pub mod InWords

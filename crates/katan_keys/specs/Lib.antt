@@ -1,1 +1,1 @@
-pub mod RoundKeys
+pub mod Window

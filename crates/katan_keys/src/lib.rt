@@ -1,62 +1,107 @@
-// The key bits of all rounds: two a round, ka and then kb.
+// The key bits of the rounds: KATAN's window of 80 key bits, which moves along with the rounds, and KTANTAN's key, from which
+// every round picks.
 ghost use mathlib.Core.Path.{_≡_};
-ghost use Prim.Native.Nat.{_*_};
-ghost use lib.ListN.{length};
+ghost use Prim.Native.Nat.{_≤_};
 ghost use Rattle.katan.specs.Bit.{bit};
-ghost use Rattle.katan.specs.Counter.{rounds};
-ghost use Rattle.katan.specs.Key.{k, keyLength, keyNumber, keyBitNumber};
-ghost use Rattle.katan.specs.inner.Within.{Entries};
-ghost use Rattle.katan_keys.specs.RoundKeys.{roundKeyBits};
+ghost use Rattle.katan.specs.Key.{keyNumber};
+ghost use Rattle.katan_keys.specs.Window.{windowNumber, ahead as aheadOf, behind as behindOf, times, sourceAt, nextSource, previousSource};
 use katan::Key;
+use katan::RoundPosition;
 
-// Room for the key bits of all rounds.
-fn no_keys() -> [u8; katan::ROUND_KEYS]
-    ensures { λ r. ⌜ length r ≡ 2 * rounds ⌝ }
-{
-    [0u8; katan::ROUND_KEYS]
+// Bits 0 to 63 of a window, and 64 to 79. Both are words: an uneven struct is copied piece by piece in each round.
+pub struct Window {
+    pub low: u64,
+    pub high: u64,
 }
 
-// The 80 key bits, KATAN's k(0) to k(79).
-fn first_keys(key: Key) -> [u8; katan::ROUND_KEYS]
-    ensures { λ r. ⌜ Entries (bit (keyNumber key)) keyLength r ⌝ }
+// So many rounds are stepped at once on the way to a position: the nearest bit of the rule is 13 back, and a round takes 2.
+const STRIDE: usize = 6;
+
+// The window c rounds on: its lowest bits leave, and those that follow by the rule enter at the top.
+fn ahead(c: usize, w: Window) -> Window
+    requires { ⌜ (1 ≤ c) × (c ≤ 6) ⌝ }
+    ensures { λ r. ⌜ windowNumber r ≡ aheadOf c (windowNumber w) ⌝ }
 {
-    let mut keys = no_keys();
-    for i in 0..katan::KEY_BITS {
-        keys[i] = katan_numbers::key_bit(key, i) as u8;
+    let s = 2 * c;
+    let entering = (w.low ^ (w.low >> 19) ^ (w.low >> 30) ^ (w.high >> 3)) % (1 << s);
+    Window {
+        low: (w.high << (64 - s)) | (w.low >> s),
+        high: (w.high >> s) + (entering << (16 - s)),
     }
-    keys
 }
 
-// KATAN's k(0) to k(507).
-fn katan_keys(key: Key) -> [u8; katan::ROUND_KEYS]
-    ensures { λ r. ⌜ Entries (k (keyNumber key)) (2 * rounds) r ⌝ }
+// The window one round back: the bits that had left follow by the rule read backwards.
+fn behind(w: Window) -> Window
+    ensures { λ r. ⌜ windowNumber r ≡ behindOf 1 (windowNumber w) ⌝ }
 {
-    let mut keys = first_keys(key);
-    for i in katan::KEY_BITS..katan::ROUND_KEYS {
-        keys[i] = keys[i - 80] ^ keys[i - 61] ^ keys[i - 50] ^ keys[i - 13];
+    let returning = ((w.high >> 14) ^ (w.high >> 1) ^ (w.low >> 28) ^ (w.low >> 17)) % 4;
+    Window {
+        low: (w.low << 2) | returning,
+        high: ((w.high << 2) | (w.low >> 62)) % 0x1_0000,
     }
-    keys
 }
 
-// The key bits that KTANTAN's rounds pick.
-fn ktantan_keys(key: Key) -> [u8; katan::ROUND_KEYS]
-    ensures { λ r. ⌜ Entries (λ i. bit (keyNumber key) (keyBitNumber i)) (2 * rounds) r ⌝ }
+// n steps of c rounds each.
+fn steps(n: usize, c: usize, w: Window) -> Window
+    requires { ⌜ (1 ≤ c) × (c ≤ 6) ⌝ }
+    ensures { λ r. ⌜ windowNumber r ≡ times n (aheadOf c) (windowNumber w) ⌝ }
 {
-    let numbers = katan_variants::key_bit_numbers();
-    let bits = first_keys(key);
-    let mut keys = no_keys();
-    for i in 0..katan::ROUND_KEYS {
-        keys[i] = bits[katan_numbers::index_of(numbers[i])];
+    let mut t = w;
+    for _ in 0..n {
+        t = ahead(c, t);
     }
-    keys
+    t
 }
 
-pub fn round_keys(variant: u8, key: Key) -> [u8; katan::ROUND_KEYS]
-    ensures { λ r. ⌜ r ≡ roundKeyBits variant (keyNumber key) ⌝ }
+fn key_words(key: Key) -> Window
+    ensures { λ r. ⌜ windowNumber r ≡ keyNumber key ⌝ }
+{
+    Window {
+        low: key.low,
+        high: key.high as u64,
+    }
+}
+
+// What the rounds from a position on find their key bits in.
+pub fn source_at(variant: u8, key: Key, at: RoundPosition) -> Window
+    ensures { λ r. ⌜ windowNumber r ≡ sourceAt variant (keyNumber key) (at .0) ⌝ }
+{
+    let first = key_words(key);
+    if katan_variants::is_katan(variant) {
+        let p = at.0 as usize;
+        return steps(p % STRIDE, 1, steps(p / STRIDE, STRIDE, first));
+    }
+    first
+}
+
+// The same a round later, and a round earlier.
+pub fn next_source(variant: u8, w: Window) -> Window
+    ensures { λ r. ⌜ windowNumber r ≡ nextSource variant (windowNumber w) ⌝ }
 {
     if katan_variants::is_katan(variant) {
-        katan_keys(key)
+        ahead(1, w)
     } else {
-        ktantan_keys(key)
+        w
+    }
+}
+
+pub fn previous_source(variant: u8, w: Window) -> Window
+    ensures { λ r. ⌜ windowNumber r ≡ previousSource variant (windowNumber w) ⌝ }
+{
+    if katan_variants::is_katan(variant) {
+        behind(w)
+    } else {
+        w
+    }
+}
+
+// Bit i of a window or key, 0 past its end.
+pub fn bit_at(w: Window, i: usize) -> u64
+    ensures { λ r. ⌜ r ≡ bit (windowNumber w) i ⌝ }
+{
+    if i < katan::WORD_BITS {
+        katan_numbers::bit_of(w.low, i)
+    } else {
+        katan_numbers::bit_of(w.high, i - katan::WORD_BITS)
     }
 }

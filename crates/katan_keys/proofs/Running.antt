@@ -1,0 +1,142 @@
+-- The window at each position, and its steps either way: by bits, one law over the number of rounds.
+-- Assumes nothing.
+use mathlib.Core.Path.{_≡_, refl, sym, ap, ap₂, subst, _∙_}
+use mathlib.Core.Bool.{Bool, true, false}
+use Prim.Native.Nat.{ℕ, zero, suc, _+_, _-_, _*_, _/_, _%_, _^_, _<_, _≤_}
+use native.Mathlib.Nat.{mod-lt, mul-one, suc-mul, add-sub-of-le}
+use native.Mathlib.Omega.{arith}
+use borrow.Author.Tests.{leb-true, leb-false}
+use lib.Dec.{leb}
+use lib.Pow.{pow-pos, shr-lt}
+use Rattle.katan.specs.Bit.{bit, xor, fromBits}
+use Rattle.katan.specs.Counter.{counter, irOf, rounds}
+use Rattle.katan.specs.Key.{keyLength, kRule, k}
+use Rattle.katan.specs.Variant.{lastKatan}
+use Rattle.katan.specs.Clock.{inputOf}
+use Rattle.katan.specs.declared.RoundInput.{RoundInput}
+use Rattle.katan.proofs.Bits.{bit-mod, bit-below, bit-above, bit-shr, bit-xor, joined-lt, from-bits-lt, bit-from-bits, bits-equal, xor-undone}
+use Rattle.katan.proofs.Keys.{k-key, k-next, k-bit, katan-input}
+use Rattle.katan_keys.specs.Window.{windowAt, ahead, behind, times, RunningWindow}
+
+-- ---- the window's bits
+
+module _ (key p : ℕ) where
+  pub window-bit : (i : ℕ) → i < keyLength → bit (windowAt key p) i ≡ k key (2 * p + i)
+  unfolding windowAt
+  window-bit i q = bit-from-bits (λ i. k key (2 * p + i)) keyLength (λ i q. k-bit key (2 * p + i)) i q
+
+  pub window-lt : windowAt key p < 2 ^ keyLength
+  unfolding windowAt
+  window-lt = from-bits-lt (λ i. k key (2 * p + i)) keyLength (λ i q. k-bit key (2 * p + i))
+
+  -- a number with the window's bits is the window
+  is-window : (w : ℕ) → w < 2 ^ keyLength → ((i : ℕ) → i < keyLength → bit w i ≡ k key (2 * p + i)) → w ≡ windowAt key p
+  is-window w h same = bits-equal keyLength w (windowAt key p) h window-lt (λ i q. same i q ∙ sym (window-bit i q))
+
+pub first-window : (key : ℕ) → key < 2 ^ keyLength → windowAt key 0 ≡ key
+first-window key h = sym (is-window key 0 key h (λ i q. sym (k-key key i q) ∙ ap (k key) (omega arith)))
+
+-- ---- c rounds on, and c rounds back
+
+-- bit j of an xor of four, each shifted down
+four-bits : (f g h i j : ℕ) (w : ℕ) → bit (xor (xor (xor (w / 2 ^ f) (w / 2 ^ g)) (w / 2 ^ h)) (w / 2 ^ i)) j ≡ xor (xor (xor (bit w (f + j)) (bit w (g + j))) (bit w (h + j))) (bit w (i + j))
+four-bits f g h i j w =
+    bit-xor _ _ j
+    ∙ ap₂ xor (bit-xor _ _ j ∙ ap₂ xor (bit-xor _ _ j ∙ ap₂ xor (bit-shr w f j) (bit-shr w g j)) (bit-shr w h j)) (bit-shr w i j)
+
+-- by place: below m, or m and so many more
+by-place : (P : ℕ → Type 0) (m : ℕ) → ((i : ℕ) → i < m → P i) → ((j : ℕ) → P (m + j)) → (i : ℕ) → P i
+by-place P m low high i = place (leb m i) refl
+  where
+    place : (b : Bool) → leb m i ≡ b → P i
+    place true e = subst P (add-sub-of-le (leb-true m i e)) (high (i - m))
+    place false e = low i (leb-false m i e)
+
+module _ (key p c : ℕ) (few : c ≤ 6) where
+  -- the bits that enter at the top
+  entering : (j : ℕ) → j < 2 * c → bit (kRule xor (λ d. windowAt key p / 2 ^ d) keyLength % 2 ^ (2 * c)) j ≡ k key (2 * p + keyLength + j)
+  entering j q =
+      let w = windowAt key p in
+      let at : (d : ℕ) → d ≤ 67 → bit w (d + j) ≡ k key (2 * p + keyLength + j - (80 - d))
+      = λ d l. window-bit key p (d + j) (omega arith) ∙ ap (k key) (omega arith) in
+      bit-mod (2 * c) _ j q
+      ∙ four-bits 0 19 30 67 j w
+      ∙ ap₂ xor (ap₂ xor (ap₂ xor (at 0 (omega arith)) (at 19 (omega arith))) (at 30 (omega arith))) (at 67 (omega arith))
+      ∙ sym (k-next key (2 * p + keyLength + j) (omega arith))
+
+  -- LAW: c rounds on from the window at p is the window at p + c
+  pub ahead-window : ahead c (windowAt key p) ≡ windowAt key (p + c)
+  unfolding ahead
+  ahead-window =
+      let w = windowAt key p in
+      let m = keyLength - 2 * c in
+      let e = kRule xor (λ d. w / 2 ^ d) keyLength % 2 ^ (2 * c) in
+      let whole : 2 * c + m ≡ keyLength = omega arith in
+      let parts : keyLength ≡ m + 2 * c = omega arith in
+      let below : w / 2 ^ (2 * c) < 2 ^ m = shr-lt m (2 * c) (subst (λ (x : ℕ). w < 2 ^ x) parts (window-lt key p)) in
+      is-window key (p + c) _
+      (subst (λ (x : ℕ). e * 2 ^ m + w / 2 ^ (2 * c) < 2 ^ x) whole (joined-lt m e below (2 * c) (mod-lt _ (pow-pos (2 * c)))))
+      (by-place (λ i. i < keyLength → bit (e * 2 ^ m + w / 2 ^ (2 * c)) i ≡ k key (2 * (p + c) + i)) m
+      (λ i q r. bit-below m e below i q ∙ bit-shr w (2 * c) i ∙ window-bit key p (2 * c + i) (omega arith) ∙ ap (k key) (omega arith))
+      (λ j r. bit-above m e below j ∙ entering j (omega arith) ∙ ap (k key) (omega arith)))
+
+  -- the bits that return at the bottom
+  returning : (i : ℕ) → i < 2 * c → (w : ℕ) → w ≡ windowAt key (p + c)
+      → bit (xor (xor (xor (w / 2 ^ (80 - 2 * c)) (w / 2 ^ (67 - 2 * c))) (w / 2 ^ (30 - 2 * c))) (w / 2 ^ (19 - 2 * c)) % 2 ^ (2 * c)) i ≡ k key (2 * p + i)
+  returning i q w e =
+      let at : (d : ℕ) → 19 ≤ d → d ≤ 80 → bit w (d - 2 * c + i) ≡ k key (2 * p + d + i)
+      = λ d l h. ap (λ (x : ℕ). bit x (d - 2 * c + i)) e ∙ window-bit key (p + c) (d - 2 * c + i) (omega arith) ∙ ap (k key) (omega arith) in
+      let far : (d : ℕ) → d ≤ 67 → k key (2 * p + 80 + i - (80 - d)) ≡ k key (2 * p + d + i) = λ d h. ap (k key) (omega arith) in
+      let x = k key (2 * p + i) in
+      let x19 = k key (2 * p + 19 + i) in
+      let x30 = k key (2 * p + 30 + i) in
+      let x67 = k key (2 * p + 67 + i) in
+      let rule : k key (2 * p + 80 + i) ≡ xor (xor (xor x x19) x30) x67
+      = k-next key (2 * p + 80 + i) (omega arith)
+      ∙ ap₂ xor (ap₂ xor (ap₂ xor (ap (k key) (omega arith)) (far 19 (omega arith))) (far 30 (omega arith))) (far 67 (omega arith)) in
+      bit-mod (2 * c) _ i q
+      ∙ four-bits (80 - 2 * c) (67 - 2 * c) (30 - 2 * c) (19 - 2 * c) i w
+      ∙ ap₂ xor (ap₂ xor (ap₂ xor (at 80 (omega arith) (omega arith)) (at 67 (omega arith) (omega arith))) (at 30 (omega arith) (omega arith))) (at 19 (omega arith) (omega arith))
+      ∙ ap (λ (y : ℕ). xor (xor (xor y x67) x30) x19) rule
+      ∙ ap (λ (y : ℕ). xor (xor y x30) x19) (xor-undone (xor (xor x x19) x30) x67)
+      ∙ ap (λ (y : ℕ). xor y x19) (xor-undone (xor x x19) x30)
+      ∙ xor-undone x x19
+
+  -- LAW: c rounds back from the window at p + c is the window at p
+  pub behind-window : behind c (windowAt key (p + c)) ≡ windowAt key p
+  unfolding behind
+  behind-window =
+      let w = windowAt key (p + c) in
+      let o = xor (xor (xor (w / 2 ^ (80 - 2 * c)) (w / 2 ^ (67 - 2 * c))) (w / 2 ^ (30 - 2 * c))) (w / 2 ^ (19 - 2 * c)) % 2 ^ (2 * c) in
+      let small : o < 2 ^ (2 * c) = mod-lt _ (pow-pos (2 * c)) in
+      is-window key p _ (mod-lt _ (pow-pos keyLength))
+      (λ i r.
+      bit-mod keyLength _ i r
+      ∙ by-place (λ i. i < keyLength → bit (w * 2 ^ (2 * c) + o) i ≡ k key (2 * p + i)) (2 * c)
+      (λ i q r. bit-below (2 * c) w small i q ∙ returning i q w refl)
+      (λ j r. bit-above (2 * c) w small j ∙ window-bit key (p + c) j (omega arith) ∙ ap (k key) (omega arith))
+      i r)
+
+-- ---- many steps
+
+-- n steps of c rounds
+pub steps-window : (key p c n : ℕ) → c ≤ 6 → times n (ahead c) (windowAt key p) ≡ windowAt key (p + n * c)
+steps-window key p c zero few = ap (windowAt key) (omega arith)
+steps-window key p c (suc n) few =
+    ap (ahead c) (steps-window key p c n few) ∙ ahead-window key (p + n * c) c few ∙ ap (windowAt key) (omega (arith, suc-mul n c))
+
+-- THEOREM: the claim of every key and every position
+pub running-window : (key p : ℕ) → RunningWindow key p
+running-window key p =
+    record {
+      its-bits = window-bit key p;
+      no-more = window-lt key p;
+      first = first-window key;
+      forth = ahead-window key p 1 (omega arith);
+      back = behind-window key p 1 (omega arith);
+      at-once = λ c few. ahead-window key p c few ∙ ap (λ (x : ℕ). windowAt key (p + x)) (sym (mul-one c)) ∙ sym (steps-window key p 1 c (omega arith));
+      taken = λ v h q.
+          katan-input v key p h q
+          ∙ ap₂ (λ (x y : ℕ). record { ir = irOf (counter p); ka = x; kb = y })
+          (ap (k key) (omega arith) ∙ sym (window-bit key p 0 (omega arith))) (sym (window-bit key p 1 (omega arith)));
+    }

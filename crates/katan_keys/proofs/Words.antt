@@ -1,0 +1,60 @@
+-- A number in two words, its shifts and the low bits of its shifts.
+-- Assumes nothing.
+use mathlib.Core.Path.{_≡_, refl, sym, ap, ap₂, subst, _∙_}
+use Prim.Native.Nat.{ℕ, _+_, _-_, _*_, _/_, _%_, _^_, _<_, _≤_}
+use native.Mathlib.Nat.{add-comm, add-mul, mul-assoc, mul-comm, add-zero, add-mul-div-right}
+use native.Mathlib.Omega.{arith}
+use lib.Bits.{xor-mod}
+use lib.Pow.{pow-pos, pow-add, shr-shr, shl-shr, shr-lt, high, low, split, mod-pow-add, mod-mod-pow, field}
+use Rattle.katan.specs.Bit.{xor}
+use Rattle.katan.proofs.Bits.{joined-lt}
+
+-- the low s bits of an xor of four go by theirs
+four-low : (s a b c d : ℕ) → xor (xor (xor a b) c) d % 2 ^ s ≡ xor (xor (xor (a % 2 ^ s) (b % 2 ^ s)) (c % 2 ^ s)) (d % 2 ^ s)
+four-low s a b c d =
+    xor-mod _ d s ∙ ap (λ (x : ℕ). xor x (d % 2 ^ s)) (xor-mod _ c s ∙ ap (λ (x : ℕ). xor x (c % 2 ^ s)) (xor-mod a b s))
+
+pub low-same : (s a b c d a′ b′ c′ d′ : ℕ) → a % 2 ^ s ≡ a′ % 2 ^ s → b % 2 ^ s ≡ b′ % 2 ^ s → c % 2 ^ s ≡ c′ % 2 ^ s → d % 2 ^ s ≡ d′ % 2 ^ s
+    → xor (xor (xor a b) c) d % 2 ^ s ≡ xor (xor (xor a′ b′) c′) d′ % 2 ^ s
+low-same s a b c d a′ b′ c′ d′ e f g h = four-low s a b c d ∙ ap₂ xor (ap₂ xor (ap₂ xor e f) g) h ∙ sym (four-low s a′ b′ c′ d′)
+
+-- h, shifted up so that its low s bits are the highest of a word
+pub lifted : (h s : ℕ) → s ≤ 64 → (h * 2 ^ (64 - s)) % 2 ^ 64 ≡ (h % 2 ^ s) * 2 ^ (64 - s)
+lifted h s q =
+    let m = 64 - s in
+    let e : 64 ≡ s + m = omega arith in
+    ap (λ (x : ℕ). (h * 2 ^ m) % 2 ^ x) e
+    ∙ mod-pow-add (h * 2 ^ m) s m
+    ∙ ap₂ (λ (x y : ℕ). (x % 2 ^ s) * 2 ^ m + y) (shl-shr h m) (ap (λ (x : ℕ). x % 2 ^ m) (sym (add-zero (h * 2 ^ m))) ∙ low h m (pow-pos m))
+    ∙ add-zero _
+
+module _ (h : ℕ) {l : ℕ} (q : l < 2 ^ 64) where
+  x : ℕ
+  x = h * 2 ^ 64 + l
+
+  -- the low s bits of the number shifted down by j: the low word's, or the high word's
+  pub from-low : (j s : ℕ) → j + s ≤ 64 → (h * 2 ^ 64 + l) / 2 ^ j % 2 ^ s ≡ l / 2 ^ j % 2 ^ s
+  unfolding x
+  from-low j s r =
+      let m = 64 - j - s in
+      let e : 64 ≡ (m + s) + j = omega arith in
+      sym (mod-mod-pow (x / 2 ^ j) m s)
+      ∙ ap (λ (y : ℕ). y % 2 ^ s) (sym (field x (m + s) j) ∙ ap (λ (n : ℕ). x % 2 ^ n / 2 ^ j) (sym e) ∙ ap (λ (y : ℕ). y / 2 ^ j) (low h 64 q))
+
+  pub from-high : (i : ℕ) → (h * 2 ^ 64 + l) / 2 ^ (64 + i) ≡ h / 2 ^ i
+  from-high i = sym (shr-shr (h * 2 ^ 64 + l) 64 i) ∙ ap (λ (y : ℕ). y / 2 ^ i) (high h 64 q)
+
+  -- the number shifted down by s: the high word, and the low word with h's low s bits above its own
+  pub shifted-down : (s : ℕ) → s ≤ 64 → (h * 2 ^ 64 + l) / 2 ^ s ≡ h / 2 ^ s * 2 ^ 64 + ((h % 2 ^ s) * 2 ^ (64 - s) + l / 2 ^ s)
+  shifted-down s r =
+      let m = 64 - s in
+      let word : 2 ^ 64 ≡ 2 ^ s * 2 ^ m = ap (λ (n : ℕ). 2 ^ n) e ∙ pow-add 2 s m in
+      let up : h * 2 ^ 64 ≡ h * 2 ^ m * 2 ^ s = ap (h *_) (word ∙ mul-comm (2 ^ s) (2 ^ m)) ∙ sym (mul-assoc h (2 ^ m) (2 ^ s)) in
+      let parted : h * 2 ^ m ≡ h / 2 ^ s * 2 ^ 64 + (h % 2 ^ s) * 2 ^ m
+      = ap (λ (y : ℕ). y * 2 ^ m) (sym (split h s)) ∙ add-mul _ _ (2 ^ m) ∙ ap (λ (y : ℕ). y + (h % 2 ^ s) * 2 ^ m) (mul-assoc _ (2 ^ s) (2 ^ m) ∙ ap (h / 2 ^ s *_) (sym word)) in
+      ap (λ (y : ℕ). y / 2 ^ s) (add-comm (h * 2 ^ 64) l ∙ ap (l +_) up)
+      ∙ add-mul-div-right l (h * 2 ^ m) (pow-pos s)
+      ∙ omega (arith, parted)
+    where
+      e : 64 ≡ s + (64 - s)
+      e = omega arith

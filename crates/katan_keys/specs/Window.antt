@@ -1,0 +1,61 @@
+-- The key window (document 02, (iii)): the 80 key bits that a KATAN carries along.
+-- Assumes nothing.
+use mathlib.Core.Path.{_≡_}
+use Prim.Native.Nat.{ℕ, zero, suc, _+_, _-_, _*_, _/_, _%_, _^_, _<_, _≤_}
+use Rattle.katan.specs.Bit.{bit, xor, pick, fromBits}
+use Rattle.katan.specs.Counter.{counter, irOf, rounds}
+use Rattle.katan.specs.Key.{keyLength, kRule, k}
+use Rattle.katan.specs.Variant.{isKatan, lastKatan}
+use Rattle.katan.specs.Clock.{inputOf}
+use Rattle.katan_keys.specs.declared.Window.{Window}
+
+-- the window at position p: k(2p) to k(2p + 79) as a number of 80 bits, k(2p) lowest
+unfoldable pub windowAt : (key p : ℕ) → ℕ
+windowAt key p = fromBits (λ i. k key (2 * p + i)) keyLength
+
+-- c rounds on: the lowest 2c bits leave, and the next 2c by the rule of k(i) enter at the top
+unfoldable pub ahead : (c w : ℕ) → ℕ
+ahead c w = kRule xor (λ j. w / 2 ^ j) keyLength % 2 ^ (2 * c) * 2 ^ (keyLength - 2 * c) + w / 2 ^ (2 * c)
+
+-- c rounds back: the 2c bits that had left return at the bottom, k(i) = k(i + 80) xor k(i + 67) xor k(i + 30) xor k(i + 19)
+unfoldable pub behind : (c w : ℕ) → ℕ
+behind c w =
+    let at : ℕ → ℕ = λ j. w / 2 ^ (j - 2 * c) in
+    (w * 2 ^ (2 * c) + xor (xor (xor (at 80) (at 67)) (at 30)) (at 19) % 2 ^ (2 * c)) % 2 ^ keyLength
+
+-- f, n times
+abbrev pub times : {A : Type 0} → ℕ → (A → A) → A → A
+times zero f x = x
+times (suc n) f x = f (times n f x)
+
+-- THE CLAIM of a key and a position p
+pub record RunningWindow (key p : ℕ) : Type 0 where
+  -- the window is k(2p) to k(2p + 79) and no more
+  pub its-bits : (i : ℕ) → i < keyLength → bit (windowAt key p) i ≡ k key (2 * p + i)
+  pub no-more : windowAt key p < 2 ^ keyLength
+  -- at position 0 it is the key
+  pub first : key < 2 ^ keyLength → windowAt key 0 ≡ key
+  -- going forward and back
+  pub forth : ahead 1 (windowAt key p) ≡ windowAt key (p + 1)
+  pub back : behind 1 (windowAt key (p + 1)) ≡ windowAt key p
+  -- up to six rounds at once are that many single ones
+  pub at-once : (c : ℕ) → c ≤ 6 → ahead c (windowAt key p) ≡ times c (ahead 1) (windowAt key p)
+  -- KATAN's round p takes ka and kb from it
+  pub taken : (v : ℕ) → v ≤ lastKatan → p < rounds
+      → inputOf v key p ≡ record { ir = irOf (counter p); ka = bit (windowAt key p) 0; kb = bit (windowAt key p) 1 }
+
+-- ---- what a variant's rounds find their key bits in: a KATAN's the window of their position, a KTANTAN's the key
+
+abbrev pub sourceAt : (v key p : ℕ) → ℕ
+sourceAt v key p = pick (isKatan v) (windowAt key p) key
+
+-- a round later, and a round earlier
+abbrev pub nextSource : (v w : ℕ) → ℕ
+nextSource v w = pick (isKatan v) (ahead 1 w) w
+
+abbrev pub previousSource : (v w : ℕ) → ℕ
+previousSource v w = pick (isKatan v) (behind 1 w) w
+
+-- the number in a window's words
+abbrev pub windowNumber : Window → ℕ
+windowNumber w = w .high * 2 ^ 64 + w .low
