@@ -8,12 +8,9 @@ use native.Mathlib.Omega.{arith}
 use borrow.Author.Tests.{leb-true, leb-false}
 use lib.Dec.{leb}
 use lib.Pow.{pow-pos, shr-lt}
-use Rattle.katan.specs.Bit.{bit, xor, fromBits}
+use Rattle.katan.specs.Bit.{bit, xor}
 use Rattle.katan.specs.Counter.{counter, irOf, rounds}
 use Rattle.katan.specs.Key.{keyLength, kRule, k}
-use Rattle.katan.specs.Variant.{lastKatan}
-use Rattle.katan.specs.Clock.{inputOf}
-use Rattle.katan.specs.declared.RoundInput.{RoundInput}
 use Rattle.katan.proofs.Bits.{bit-mod, bit-below, bit-above, bit-shr, bit-xor, joined-lt, from-bits-lt, bit-from-bits, bits-equal, xor-undone}
 use Rattle.katan.proofs.Keys.{k-key, k-next, k-bit, katan-input}
 use Rattle.katan_keys.specs.Window.{windowAt, ahead, behind, times, RunningWindow}

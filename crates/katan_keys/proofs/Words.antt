@@ -1,13 +1,12 @@
 -- A number in two words, its shifts and the low bits of its shifts.
 -- Assumes nothing.
-use mathlib.Core.Path.{_≡_, refl, sym, ap, ap₂, subst, _∙_}
+use mathlib.Core.Path.{_≡_, sym, ap, ap₂, _∙_}
 use Prim.Native.Nat.{ℕ, _+_, _-_, _*_, _/_, _%_, _^_, _<_, _≤_}
 use native.Mathlib.Nat.{add-comm, add-mul, mul-assoc, mul-comm, add-zero, add-mul-div-right}
 use native.Mathlib.Omega.{arith}
 use lib.Bits.{xor-mod}
-use lib.Pow.{pow-pos, pow-add, shr-shr, shl-shr, shr-lt, high, low, split, mod-pow-add, mod-mod-pow, field}
+use lib.Pow.{pow-pos, pow-add, shr-shr, shl-shr, high, low, split, mod-pow-add, mod-mod-pow, field}
 use Rattle.katan.specs.Bit.{xor}
-use Rattle.katan.proofs.Bits.{joined-lt}
 
 -- the low s bits of an xor of four go by theirs
 four-low : (s a b c d : ℕ) → xor (xor (xor a b) c) d % 2 ^ s ≡ xor (xor (xor (a % 2 ^ s) (b % 2 ^ s)) (c % 2 ^ s)) (d % 2 ^ s)

@@ -1,10 +1,10 @@
-// Numbers in bytes, low byte first; bits of words and keys; and whether a number fits n bits.
+// Numbers in bytes, low byte first; bits of words; and whether a number fits n bits.
 ghost use mathlib.Core.Path.{_≡_};
 ghost use Prim.Native.Nat.{_<_, _^_};
 ghost use lib.Dec.{leb};
 ghost use lib.ListN.{getD, length, take};
 ghost use Rattle.katan.specs.Bit.{bit, numberIn, bytesOf};
-ghost use Rattle.katan.specs.Key.{keyOf, keyNumber};
+ghost use Rattle.katan.specs.Key.{keyOf};
 ghost use Rattle.katan.specs.Sizes.{keyBytes};
 use katan::Key;
 
@@ -72,17 +72,6 @@ pub fn bit_of(x: u64, i: usize) -> u64
         (x >> i) & 1
     } else {
         0
-    }
-}
-
-// Bit i of a key, 0 past its end.
-pub fn key_bit(key: Key, i: usize) -> u64
-    ensures { λ r. ⌜ r ≡ bit (keyNumber key) i ⌝ }
-{
-    if i < katan::WORD_BITS {
-        bit_of(key.low, i)
-    } else {
-        bit_of(key.high as u64, i - katan::WORD_BITS)
     }
 }
 

@@ -6,34 +6,35 @@ use mathlib.Core.List.{List}
 use mathlib.Core.Logic.{_⊎_, inl, inr, ⊎-elim}
 use Prim.Native.Nat.{ℕ, zero, suc, _+_, _-_, _*_, _^_, _<_, _≤_}
 use native.Mathlib.Omega.{arith}
-use borrow.Author.Tests.{leb-true, leb-false, le-leb, lt-leb}
-use lib.Dec.{leb}
-use lib.ListN.{length, getD, List·getD-eq-default}
+use borrow.Author.Tests.{leb-true, leb-false}
+use lib.ListN.{getD}
 use Rattle.katan.specs.Bit.{bit, pick, tabulate}
 use Rattle.katan.specs.Counter.{counter, irOf, rounds}
 use Rattle.katan.specs.Variant.{row32, row48, row64, rowOf, widthOf, isKatan, lastKatan}
-use Rattle.katan.specs.Key.{k, keyBitNumber}
-use Rattle.katan.specs.Clock.{clock, unclock, round, unround, run, unrun, block, registers, inputOf}
-use Rattle.katan.specs.Machine.{registersAt}
-use Rattle.katan.specs.inner.Within.{Sound, Bits, RegistersFit, Entries, AreBits}
+use Rattle.katan.specs.Key.{keyBitNumber}
+use Rattle.katan.specs.Clock.{clock, unclock, round, unround, run, unrun, registers, inputOf}
+use Rattle.katan.specs.inner.Within.{Sound, Bits, RegistersFit}
 use Rattle.katan.specs.declared.Row.{Row}
 use Rattle.katan.specs.declared.Registers.{Registers}
 use Rattle.katan.specs.declared.RoundInput.{RoundInput}
 use Rattle.katan.proofs.Bits.{bit-lt}
 use Rattle.katan.proofs.Tables.{entry}
-use Rattle.katan.proofs.Keys.{katan-input, ktantan-input, k-bit}
-use Rattle.katan.proofs.Undo.{sound, clock-fits, unclock-fits, clocks-fit, unclocks-fit, run-fits, unrun-fits, run-same, unrun-same}
-use Rattle.katan.proofs.Positions.{at-later, at-earlier, registers-fit}
-use Rattle.katan_keys.specs.RoundKeys.{roundKeyBit, roundKeyBits}
-use Rattle.katan_keys.proofs.RoundBits.{to-entries}
-use Rattle.katan_registers.specs.inner.Tables.{tableInput, registersBy}
+use Rattle.katan.proofs.Keys.{ktantan-input} 
+use Rattle.katan.proofs.Keys.{input-bits as inputs-bits}
+use Rattle.katan.proofs.Undo.{sound, clock-fits, unclock-fits, clocks-fit, unclocks-fit, run-fits, unrun-fits}
+use Rattle.katan.proofs.Positions.{registers-fit}
+use Rattle.katan_registers.specs.declared.rounds.Fed.{Fed}
+use Rattle.katan_registers.specs.declared.rounds.Running.{Running}
+use Rattle.katan_keys.specs.Window.{windowNumber, windowAt, ahead, behind, sourceAt, nextSource, previousSource}
+use Rattle.katan_keys.proofs.Running.{running-window}
+use Rattle.katan_registers.specs.inner.Tables.{tableInput, afterRound}
 
-pub table-bits : (counters keys : List ℕ) → AreBits keys → (r : ℕ) → Bits (tableInput counters keys r)
-table-bits counters keys h r =
-    record { ir-bit = bit-lt (getD counters r 0) 7; ka-bit = h (2 * r); kb-bit = h (2 * r + 1) }
+module _ (v : ℕ) (counters numbers : List ℕ) where
+  table-bits : (r w : ℕ) → Bits (tableInput v counters numbers r w)
+  table-bits r w = record { ir-bit = bit-lt (getD counters r 0) 7; ka-bit = bit-lt w _; kb-bit = bit-lt w _ }
 
-pub input-bits : (counters keys : List ℕ) → AreBits keys → (r : ℕ) (u : RoundInput) → u ≡ tableInput counters keys r → Bits u
-input-bits counters keys h r u e = rw e (table-bits counters keys h r)
+  pub input-bits : (r w : ℕ) (u : RoundInput) → u ≡ tableInput v counters numbers r w → Bits u
+  input-bits r w u e = subst (λ (x : RoundInput). Bits x) (sym e) (table-bits r w)
 
 -- ---- registers stay within their lengths
 
@@ -41,12 +42,12 @@ module _ (v : Row) (t : Sound v) where
   pub loaded-fits : (x : ℕ) → x < 2 ^ (v .n) → (s : Registers) → s ≡ registers v x → RegistersFit v s
   loaded-fits x h s e = rw e (registers-fit v t x h)
 
-  module _ (counters keys : List ℕ) (b : AreBits keys) (p c : ℕ) (s : Registers) (f : RegistersFit v s) (r : Registers) where
-    pub ran-fits : r ≡ run v (tableInput counters keys) p c s → RegistersFit v r
-    ran-fits e = rw e (run-fits v t (tableInput counters keys) (table-bits counters keys b) p c s f)
+  module _ (key p c : ℕ) (s : Registers) (f : RegistersFit v s) (r : Registers) (n : ℕ) where
+    pub ran-fits : r ≡ run v (inputOf n key) p c s → RegistersFit v r
+    ran-fits e = rw e (run-fits v t (inputOf n key) (inputs-bits n key) p c s f)
 
-    pub unran-fits : r ≡ unrun v (tableInput counters keys) p c s → RegistersFit v r
-    unran-fits e = rw e (unrun-fits v t (tableInput counters keys) (table-bits counters keys b) p c s f)
+    pub unran-fits : r ≡ unrun v (inputOf n key) p c s → RegistersFit v r
+    unran-fits e = rw e (unrun-fits v t (inputOf n key) (inputs-bits n key) p c s f)
 
   module _ (u : RoundInput) (b : Bits u) (s : Registers) (f : RegistersFit v s) (r : Registers) where
     pub round-fits : r ≡ round v u s → RegistersFit v r
@@ -77,58 +78,53 @@ module _ (f : Row → Registers → Registers) (v r : Row) (e : r ≡ v) (s a : 
     pub thrice : (d : Registers) → d ≡ f r b → d ≡ f v (f v (f v s))
     thrice d t = t ∙ ap₂ f e twice
 
--- ---- the tables give each round its input
+-- what a round leaves, on a row that is its variant's and with an input that is u
+module _ (step : Row → RoundInput → Registers → Registers) (row : Row) (v : ℕ) (e : row ≡ rowOf v) (f : Fed) (u : RoundInput) (i : f .input ≡ u) (w : ℕ) (g : windowNumber (f .source) ≡ w)
+    (s : Registers) (t : Running) (p : t ≡ afterRound f (step row (f .input) s)) where
+  pub turned : (t .registers ≡ step (rowOf v) u s) × (windowNumber (t .source) ≡ w)
+  turned = (ap (λ (x : Running). x .registers) p ∙ ap₂ (λ (r : Row) (x : RoundInput). step r x s) e i, ap (λ (x : Running). windowNumber (x .source)) p ∙ g)
+
+-- ---- the tables and the source of a position give each round its input
 
 abbrev input : ℕ → ℕ → ℕ → RoundInput
 input x y z = record { ir = x; ka = y; kb = z }
 
-module _ (v key : ℕ) (counters keys : List ℕ) (e : counters ≡ tabulate counter 0 rounds) (kept : keys ≡ roundKeyBits v key) where
-  h : Entries (roundKeyBit v key) (2 * rounds) keys
-  h = to-entries v key keys kept
-
-  table-input : (r : ℕ) → r < rounds → (b : Bool) → isKatan v ≡ b → tableInput counters keys r ≡ inputOf v key r
-  table-input r q b s =
-      let t : irOf (getD counters r 0) ≡ irOf (counter r) = ap irOf (ap (λ (xs : List ℕ). getD xs r 0) e ∙ entry counter rounds r 0 q) in
-      let chosen : (i : ℕ) → i < 2 * rounds → getD keys i 0 ≡ pick b (k key i) (bit key (keyBitNumber i))
-      = λ i l. h i l ∙ ap (λ (c : Bool). pick c (k key i) (bit key (keyBitNumber i))) s in
-      ap (λ (x : ℕ). input x (getD keys (2 * r) 0) (getD keys (2 * r + 1) 0)) t
-      ∙ ap₂ (input (irOf (counter r))) (chosen (2 * r) (omega arith)) (chosen (2 * r + 1) (omega arith))
-      ∙ by-kind r q b s
+module _ (v key : ℕ) (counters numbers : List ℕ) (e : counters ≡ tabulate counter 0 rounds) (f : numbers ≡ tabulate keyBitNumber 0 (2 * rounds)) where
+  pub table-input : (r w : ℕ) → r < rounds → w ≡ sourceAt v key r → tableInput v counters numbers r w ≡ inputOf v key r
+  table-input r w q h =
+      ap (λ (x : ℕ). tableInput v counters numbers r x) h
+      ∙ ap₂ (λ (x y : List ℕ). tableInput v x y r (sourceAt v key r)) e f
+      ∙ by-kind (isKatan v) refl
     where
-      by-kind : (r : ℕ) → r < rounds → (b : Bool) → isKatan v ≡ b
-          → input (irOf (counter r)) (pick b (k key (2 * r)) (bit key (keyBitNumber (2 * r)))) (pick b (k key (2 * r + 1)) (bit key (keyBitNumber (2 * r + 1)))) ≡ inputOf v key r
-      by-kind r q true s = sym (katan-input v key r (leb-true v lastKatan s))
-      by-kind r q false s = sym (ktantan-input v key r (leb-false v lastKatan s) q)
+      t : irOf (getD (tabulate counter 0 rounds) r 0) ≡ irOf (counter r)
+      t = ap irOf (entry counter rounds r 0 q)
 
-  -- and so the registers at each position
-  pub table-registers : (row : Row) → row ≡ rowOf v → (q x p : ℕ) → q ≤ rounds → p ≤ rounds
-      → registersBy row (tableInput counters keys) q x p ≡ registersAt v key q x p
-  table-registers row f q x p m n =
-      ap (λ (y : Row). registersBy y (tableInput counters keys) q x p) f ∙ by-order (leb q p) refl
+      numbered : (i : ℕ) → i < 2 * rounds → getD (tabulate keyBitNumber 0 (2 * rounds)) i 0 ≡ keyBitNumber i
+      numbered i l = entry keyBitNumber (2 * rounds) i 0 l
+
+      by-kind : (b : Bool) → isKatan v ≡ b → tableInput v (tabulate counter 0 rounds) (tabulate keyBitNumber 0 (2 * rounds)) r (sourceAt v key r) ≡ inputOf v key r
+      by-kind true s =
+          rw s (ap (λ (x : ℕ). input x (bit (windowAt key r) 0) (bit (windowAt key r) 1)) t ∙ sym (running-window key r .taken v (leb-true v lastKatan s) q))
+      by-kind false s =
+          rw s (ap₂ (λ (x y : ℕ). input x (bit key y) (bit key (getD (tabulate keyBitNumber 0 (2 * rounds)) (2 * r + 1) 0))) t (numbered (2 * r) (omega arith))
+          ∙ ap (λ (y : ℕ). input (irOf (counter r)) (bit key (keyBitNumber (2 * r))) (bit key y)) (numbered (2 * r + 1) (omega arith))
+          ∙ sym (ktantan-input v key r (leb-false v lastKatan s) q))
+
+-- the source moves along
+module _ (v key p w : ℕ) where
+  pub source-next : w ≡ sourceAt v key p → nextSource v w ≡ sourceAt v key (p + 1)
+  source-next e = ap (nextSource v) e ∙ by-kind (isKatan v)
     where
-      same : (r : ℕ) → r < rounds → tableInput counters keys r ≡ inputOf v key r
-      same r l = table-input r l (isKatan v) refl
+      by-kind : (b : Bool) → pick b (ahead 1 (pick b (windowAt key p) key)) (pick b (windowAt key p) key) ≡ pick b (windowAt key (p + 1)) key
+      by-kind true = running-window key p .forth
+      by-kind false = refl
 
-      by-order : (b : Bool) → leb q p ≡ b → registersBy (rowOf v) (tableInput counters keys) q x p ≡ registersAt v key q x p
-      by-order true s =
-          let l : q ≤ p = leb-true q p s in
-          rw (le-leb q p l) (ap (block (rowOf v)) (run-same (rowOf v) (tableInput counters keys) (inputOf v key) q (p - q) (registers (rowOf v) x) (λ i g. same (q + i) (omega arith)))
-          ∙ sym (at-later v key q x p l))
-      by-order false s =
-          let l : p < q = leb-false q p s in
-          rw (lt-leb q p l) (ap (block (rowOf v)) (unrun-same (rowOf v) (tableInput counters keys) (inputOf v key) p (q - p) (registers (rowOf v) x) (λ i g. same (p + i) (omega arith)))
-          ∙ sym (at-earlier v key q x p l))
-
-  pub keys-bits : length keys ≡ 2 * rounds → AreBits keys
-  keys-bits n i = by-place (leb (2 * rounds) i) refl
+  pub source-previous : w ≡ sourceAt v key (p + 1) → previousSource v w ≡ sourceAt v key p
+  source-previous e = ap (previousSource v) e ∙ by-kind (isKatan v)
     where
-      picked : (b : Bool) → pick b (k key i) (bit key (keyBitNumber i)) < 2
-      picked true = k-bit key i
-      picked false = bit-lt key (keyBitNumber i)
-
-      by-place : (b : Bool) → leb (2 * rounds) i ≡ b → getD keys i 0 < 2
-      by-place true s = rw (List·getD-eq-default keys 0 {n = i} (rw n (leb-true (2 * rounds) i s))) (omega arith)
-      by-place false s = rw (h i (leb-false (2 * rounds) i s)) (picked (isKatan v))
+      by-kind : (b : Bool) → pick b (behind 1 (pick b (windowAt key (p + 1)) key)) (pick b (windowAt key (p + 1)) key) ≡ pick b (windowAt key p) key
+      by-kind true = running-window key p .back
+      by-kind false = refl
 
 -- ---- the row of a variant
 

@@ -35,8 +35,8 @@ fn registers_between(
     ensures { λ r. ⌜ r ≡ registersAt variant (keyNumber key) (from .0) x (to .0) ⌝ }
 {
     let counters = katan_variants::counters();
-    let keys = katan_keys::round_keys(variant, key);
-    by_tables(variant, row, &counters, &keys, from, to, x)
+    let numbers = katan_variants::key_bit_numbers();
+    by_tables(variant, row, &counters, &numbers, key, from, to, x)
 }
 
 // The registers of a block, from one position to another, either way.

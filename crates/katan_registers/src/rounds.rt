@@ -1,17 +1,35 @@
 // Rounds and runs of rounds, forward and back, over any row of the variants' table.
 ghost use mathlib.Core.Path.{_≡_};
-ghost use Prim.Native.Nat.{_<_, _≤_, _^_, _-_};
-ghost use Rattle.katan.specs.Counter.{rounds};
-ghost use Rattle.katan.specs.Clock.{round, unround, run, unrun, block, registers};
+ghost use Prim.Native.Nat.{_<_, _≤_, _^_, _-_, _*_};
+ghost use Rattle.katan.specs.Bit.{tabulate};
+ghost use Rattle.katan.specs.Counter.{counter, rounds};
+ghost use Rattle.katan.specs.Key.{keyNumber, keyBitNumber};
+ghost use Rattle.katan.specs.Clock.{round, unround, run, unrun, block, registers, inputOf};
 ghost use Rattle.katan.specs.Variant.{row32, row48, row64, rowOf, widthOf};
-ghost use Rattle.katan.specs.inner.Within.{Sound, Bits, RegistersFit, AreBits};
-ghost use Rattle.katan_registers.specs.inner.Tables.{inputFrom, tableInput, registersBy};
+ghost use Rattle.katan.specs.Machine.{registersAt};
+ghost use Rattle.katan.specs.inner.Within.{Sound, Bits, RegistersFit};
+ghost use Rattle.katan_keys.specs.Window.{windowNumber, nextSource, previousSource};
+ghost use Rattle.katan_registers.specs.inner.Tables.{tableInput, afterRound};
 use crate::clock::clock_of;
 use crate::clock::unclock_of;
+use katan::Key;
 use katan::Registers;
 use katan::RoundInput;
 use katan::RoundPosition;
 use katan::Row;
+use katan_keys::Window;
+
+// What a round takes, and what the next round on the way finds its key bits in.
+struct Fed {
+    input: RoundInput,
+    source: Window,
+}
+
+// The registers on their way, and what the next round finds its key bits in.
+struct Running {
+    registers: Registers,
+    source: Window,
+}
 
 fn wide(x: u8) -> u64
     ensures { λ r. ⌜ r ≡ x ⌝ }
@@ -19,84 +37,182 @@ fn wide(x: u8) -> u64
     x as u64
 }
 
-// IR, ka and kb of a round, from its T and its two key bits.
-fn input_of(counter: u8, ka: u8, kb: u8) -> RoundInput
-    ensures { λ u. ⌜ u ≡ inputFrom counter ka kb ⌝ }
+// IR, ka and kb of round r. KATAN's are the two lowest bits of the window; KTANTAN's table names them.
+fn input_of(
+    variant: u8,
+    counters: &[u8; katan::ROUND_COUNT],
+    numbers: &[u8; katan::ROUND_KEYS],
+    r: usize,
+    source: Window,
+) -> RoundInput
+    requires { ⌜ r < rounds ⌝ }
+    ensures { λ u. ⌜ u ≡ tableInput variant (now (counters .entry)) (now (numbers .entry)) r (windowNumber source) ⌝ }
 {
+    let ir = (wide(counters[r]) >> 7) % 2;
+    if katan_variants::is_katan(variant) {
+        return RoundInput {
+            ir,
+            ka: katan_keys::bit_at(source, 0),
+            kb: katan_keys::bit_at(source, 1),
+        };
+    }
+    let i = 2 * r;
     RoundInput {
-        ir: (wide(counter) >> 7) % 2,
-        ka: wide(ka),
-        kb: wide(kb),
+        ir,
+        ka: katan_keys::bit_at(source, katan_numbers::index_of(numbers[i])),
+        kb: katan_keys::bit_at(source, katan_numbers::index_of(numbers[i + 1])),
+    }
+}
+
+// Round r is fed from the source of its position, and the next round from the next one.
+fn feed(
+    variant: u8,
+    counters: &[u8; katan::ROUND_COUNT],
+    numbers: &[u8; katan::ROUND_KEYS],
+    r: usize,
+    source: Window,
+) -> Fed
+    requires { ⌜ r < rounds ⌝ }
+    ensures { λ f. ⌜ (f .input ≡ tableInput variant (now (counters .entry)) (now (numbers .entry)) r (windowNumber source)) × (windowNumber (f .source) ≡ nextSource variant (windowNumber source)) ⌝ }
+{
+    Fed {
+        input: input_of(variant, counters, numbers, r, source),
+        source: katan_keys::next_source(variant, source),
+    }
+}
+
+// On the way back the source steps first: that of round r's own position feeds it.
+fn feed_back(
+    variant: u8,
+    counters: &[u8; katan::ROUND_COUNT],
+    numbers: &[u8; katan::ROUND_KEYS],
+    r: usize,
+    source: Window,
+) -> Fed
+    requires { ⌜ r < rounds ⌝ }
+    ensures { λ f. ⌜ (f .input ≡ tableInput variant (now (counters .entry)) (now (numbers .entry)) r (previousSource variant (windowNumber source))) × (windowNumber (f .source) ≡ previousSource variant (windowNumber source)) ⌝ }
+{
+    let before = katan_keys::previous_source(variant, source);
+    Fed {
+        input: input_of(variant, counters, numbers, r, before),
+        source: before,
     }
 }
 
 // A round for each width, with the row a constant, so that its taps are compiled in.
-fn round_32(u: RoundInput, s: Registers) -> Registers
-    requires { ⌜ Bits u × RegistersFit row32 s ⌝ }
-    ensures { λ r. ⌜ r ≡ round row32 u s ⌝ }
+fn round_32(f: Fed, s: Registers) -> Running
+    requires { ⌜ Bits (f .input) × RegistersFit row32 s ⌝ }
+    ensures { λ r. ⌜ r ≡ afterRound f (round row32 (f .input) s) ⌝ }
 {
-    clock_of(katan_variants::row_32(), u, s)
+    let u = f.input;
+    let source = f.source;
+    Running {
+        registers: clock_of(katan_variants::row_32(), u, s),
+        source,
+    }
 }
 
-fn round_48(u: RoundInput, s: Registers) -> Registers
-    requires { ⌜ Bits u × RegistersFit row48 s ⌝ }
-    ensures { λ r. ⌜ r ≡ round row48 u s ⌝ }
+fn round_48(f: Fed, s: Registers) -> Running
+    requires { ⌜ Bits (f .input) × RegistersFit row48 s ⌝ }
+    ensures { λ r. ⌜ r ≡ afterRound f (round row48 (f .input) s) ⌝ }
 {
+    let u = f.input;
+    let source = f.source;
     let row = katan_variants::row_48();
-    clock_of(row, u, clock_of(row, u, s))
+    Running {
+        registers: clock_of(row, u, clock_of(row, u, s)),
+        source,
+    }
 }
 
-fn round_64(u: RoundInput, s: Registers) -> Registers
-    requires { ⌜ Bits u × RegistersFit row64 s ⌝ }
-    ensures { λ r. ⌜ r ≡ round row64 u s ⌝ }
+fn round_64(f: Fed, s: Registers) -> Running
+    requires { ⌜ Bits (f .input) × RegistersFit row64 s ⌝ }
+    ensures { λ r. ⌜ r ≡ afterRound f (round row64 (f .input) s) ⌝ }
 {
+    let u = f.input;
+    let source = f.source;
     let row = katan_variants::row_64();
-    clock_of(row, u, clock_of(row, u, clock_of(row, u, s)))
+    Running {
+        registers: clock_of(row, u, clock_of(row, u, clock_of(row, u, s))),
+        source,
+    }
 }
 
-fn round_of(variant: u8, u: RoundInput, s: Registers) -> Registers
-    requires { ⌜ (1 ≤ variant) × (variant ≤ 6) × Bits u × RegistersFit (rowOf variant) s ⌝ }
-    ensures { λ r. ⌜ r ≡ round (rowOf variant) u s ⌝ }
+// The whole round stands in the arm of its width: so the loop around it is compiled once for each.
+fn round_of(
+    variant: u8,
+    counters: &[u8; katan::ROUND_COUNT],
+    numbers: &[u8; katan::ROUND_KEYS],
+    r: usize,
+    h: Running,
+) -> Running
+    requires { ⌜ (1 ≤ variant) × (variant ≤ 6) × (r < rounds) × RegistersFit (rowOf variant) (h .registers) ⌝ }
+    ensures { λ t. ⌜ (t .registers ≡ round (rowOf variant) (tableInput variant (now (counters .entry)) (now (numbers .entry)) r (windowNumber (h .source))) (h .registers)) × (windowNumber (t .source) ≡ nextSource variant (windowNumber (h .source))) ⌝ }
 {
+    let source = h.source;
+    let s = h.registers;
     match variant {
-        1 | 4 => round_32(u, s),
-        2 | 5 => round_48(u, s),
-        _ => round_64(u, s),
+        1 | 4 => round_32(feed(variant, counters, numbers, r, source), s),
+        2 | 5 => round_48(feed(variant, counters, numbers, r, source), s),
+        _ => round_64(feed(variant, counters, numbers, r, source), s),
     }
 }
 
 // The same rounds undone.
-fn unround_32(u: RoundInput, s: Registers) -> Registers
-    requires { ⌜ Bits u × RegistersFit row32 s ⌝ }
-    ensures { λ r. ⌜ r ≡ unround row32 u s ⌝ }
+fn unround_32(f: Fed, s: Registers) -> Running
+    requires { ⌜ Bits (f .input) × RegistersFit row32 s ⌝ }
+    ensures { λ r. ⌜ r ≡ afterRound f (unround row32 (f .input) s) ⌝ }
 {
-    unclock_of(katan_variants::row_32(), u, s)
+    let u = f.input;
+    let source = f.source;
+    Running {
+        registers: unclock_of(katan_variants::row_32(), u, s),
+        source,
+    }
 }
 
-fn unround_48(u: RoundInput, s: Registers) -> Registers
-    requires { ⌜ Bits u × RegistersFit row48 s ⌝ }
-    ensures { λ r. ⌜ r ≡ unround row48 u s ⌝ }
+fn unround_48(f: Fed, s: Registers) -> Running
+    requires { ⌜ Bits (f .input) × RegistersFit row48 s ⌝ }
+    ensures { λ r. ⌜ r ≡ afterRound f (unround row48 (f .input) s) ⌝ }
 {
+    let u = f.input;
+    let source = f.source;
     let row = katan_variants::row_48();
-    unclock_of(row, u, unclock_of(row, u, s))
+    Running {
+        registers: unclock_of(row, u, unclock_of(row, u, s)),
+        source,
+    }
 }
 
-fn unround_64(u: RoundInput, s: Registers) -> Registers
-    requires { ⌜ Bits u × RegistersFit row64 s ⌝ }
-    ensures { λ r. ⌜ r ≡ unround row64 u s ⌝ }
+fn unround_64(f: Fed, s: Registers) -> Running
+    requires { ⌜ Bits (f .input) × RegistersFit row64 s ⌝ }
+    ensures { λ r. ⌜ r ≡ afterRound f (unround row64 (f .input) s) ⌝ }
 {
+    let u = f.input;
+    let source = f.source;
     let row = katan_variants::row_64();
-    unclock_of(row, u, unclock_of(row, u, unclock_of(row, u, s)))
+    Running {
+        registers: unclock_of(row, u, unclock_of(row, u, unclock_of(row, u, s))),
+        source,
+    }
 }
 
-fn unround_of(variant: u8, u: RoundInput, s: Registers) -> Registers
-    requires { ⌜ (1 ≤ variant) × (variant ≤ 6) × Bits u × RegistersFit (rowOf variant) s ⌝ }
-    ensures { λ r. ⌜ r ≡ unround (rowOf variant) u s ⌝ }
+fn unround_of(
+    variant: u8,
+    counters: &[u8; katan::ROUND_COUNT],
+    numbers: &[u8; katan::ROUND_KEYS],
+    r: usize,
+    h: Running,
+) -> Running
+    requires { ⌜ (1 ≤ variant) × (variant ≤ 6) × (r < rounds) × RegistersFit (rowOf variant) (h .registers) ⌝ }
+    ensures { λ t. ⌜ (t .registers ≡ unround (rowOf variant) (tableInput variant (now (counters .entry)) (now (numbers .entry)) r (previousSource variant (windowNumber (h .source)))) (h .registers)) × (windowNumber (t .source) ≡ previousSource variant (windowNumber (h .source))) ⌝ }
 {
+    let source = h.source;
+    let s = h.registers;
     match variant {
-        1 | 4 => unround_32(u, s),
-        2 | 5 => unround_48(u, s),
-        _ => unround_64(u, s),
+        1 | 4 => unround_32(feed_back(variant, counters, numbers, r, source), s),
+        2 | 5 => unround_48(feed_back(variant, counters, numbers, r, source), s),
+        _ => unround_64(feed_back(variant, counters, numbers, r, source), s),
     }
 }
 
@@ -104,48 +220,51 @@ fn unround_of(variant: u8, u: RoundInput, s: Registers) -> Registers
 fn run_of(
     variant: u8,
     counters: &[u8; katan::ROUND_COUNT],
-    keys: &[u8; katan::ROUND_KEYS],
+    numbers: &[u8; katan::ROUND_KEYS],
+    key: Key,
     from: RoundPosition,
     to: RoundPosition,
     s: Registers,
 ) -> Registers
-    requires { ⌜ (1 ≤ variant) × (variant ≤ 6) × RegistersFit (rowOf variant) s × AreBits (now keys) × (from .0 ≤ to .0) × (to .0 ≤ rounds) ⌝ }
-    ensures { λ r. ⌜ r ≡ run (rowOf variant) (tableInput (now (counters .entry)) (now (keys .entry))) (from .0) (to .0 - from .0) s ⌝ }
+    requires { ⌜ (1 ≤ variant) × (variant ≤ 6) × (now counters ≡ tabulate counter 0 rounds) × (now numbers ≡ tabulate keyBitNumber 0 (2 * rounds)) × RegistersFit (rowOf variant) s × (from .0 ≤ to .0) × (to .0 ≤ rounds) ⌝ }
+    ensures { λ r. ⌜ r ≡ run (rowOf variant) (inputOf variant (keyNumber key)) (from .0) (to .0 - from .0) s ⌝ }
 {
     let first = from.0 as usize;
     let count = to.0 as usize - first;
-    let mut t = s;
+    let mut h = Running {
+        registers: s,
+        source: katan_keys::source_at(variant, key, from),
+    };
     for i in 0..count {
-        let r = first + i;
-        let k = 2 * r;
-        let u = input_of(counters[r], keys[k], keys[k + 1]);
-        t = round_of(variant, u, t);
+        h = round_of(variant, counters, numbers, first + i, h);
     }
-    t
+    h.registers
 }
 
 // The same rounds undone, the last first.
 fn unrun_of(
     variant: u8,
     counters: &[u8; katan::ROUND_COUNT],
-    keys: &[u8; katan::ROUND_KEYS],
+    numbers: &[u8; katan::ROUND_KEYS],
+    key: Key,
     from: RoundPosition,
     to: RoundPosition,
     s: Registers,
 ) -> Registers
-    requires { ⌜ (1 ≤ variant) × (variant ≤ 6) × RegistersFit (rowOf variant) s × AreBits (now keys) × (to .0 ≤ from .0) × (from .0 ≤ rounds) ⌝ }
-    ensures { λ r. ⌜ r ≡ unrun (rowOf variant) (tableInput (now (counters .entry)) (now (keys .entry))) (to .0) (from .0 - to .0) s ⌝ }
+    requires { ⌜ (1 ≤ variant) × (variant ≤ 6) × (now counters ≡ tabulate counter 0 rounds) × (now numbers ≡ tabulate keyBitNumber 0 (2 * rounds)) × RegistersFit (rowOf variant) s × (to .0 ≤ from .0) × (from .0 ≤ rounds) ⌝ }
+    ensures { λ r. ⌜ r ≡ unrun (rowOf variant) (inputOf variant (keyNumber key)) (to .0) (from .0 - to .0) s ⌝ }
 {
     let end = to.0 as usize;
-    let mut t = s;
     let mut left = from.0 as usize;
+    let mut h = Running {
+        registers: s,
+        source: katan_keys::source_at(variant, key, from),
+    };
     while end < left {
         left -= 1;
-        let i = 2 * left;
-        let u = input_of(counters[left], keys[i], keys[i + 1]);
-        t = unround_of(variant, u, t);
+        h = unround_of(variant, counters, numbers, left, h);
     }
-    t
+    h.registers
 }
 
 fn registers_of(v: Row, x: u64) -> Registers
@@ -165,23 +284,24 @@ fn block_of(v: Row, s: Registers) -> u64
     (s.l1 << v.len2) | s.l2
 }
 
-// The registers of x from one position to another, with T of each round and the key bits of all rounds.
+// The registers at one position of x loaded at another, with T of each round and KTANTAN's key bit numbers.
 pub fn by_tables(
     variant: u8,
     row: Row,
     counters: &[u8; katan::ROUND_COUNT],
-    keys: &[u8; katan::ROUND_KEYS],
+    numbers: &[u8; katan::ROUND_KEYS],
+    key: Key,
     from: RoundPosition,
     to: RoundPosition,
     x: u64,
 ) -> u64
-    requires { ⌜ (1 ≤ variant) × (variant ≤ 6) × (row ≡ rowOf variant) × (x < 2 ^ widthOf variant) × AreBits (now keys) × (from .0 ≤ rounds) × (to .0 ≤ rounds) ⌝ }
-    ensures { λ r. ⌜ r ≡ registersBy (rowOf variant) (tableInput (now (counters .entry)) (now (keys .entry))) (from .0) x (to .0) ⌝ }
+    requires { ⌜ (1 ≤ variant) × (variant ≤ 6) × (row ≡ rowOf variant) × (now counters ≡ tabulate counter 0 rounds) × (now numbers ≡ tabulate keyBitNumber 0 (2 * rounds)) × (from .0 ≤ rounds) × (to .0 ≤ rounds) × (x < 2 ^ widthOf variant) ⌝ }
+    ensures { λ r. ⌜ r ≡ registersAt variant (keyNumber key) (from .0) x (to .0) ⌝ }
 {
     let s = registers_of(row, x);
     if from.0 <= to.0 {
-        block_of(row, run_of(variant, counters, keys, from, to, s))
+        block_of(row, run_of(variant, counters, numbers, key, from, to, s))
     } else {
-        block_of(row, unrun_of(variant, counters, keys, from, to, s))
+        block_of(row, unrun_of(variant, counters, numbers, key, from, to, s))
     }
 }

@@ -40,6 +40,3 @@ pub record RegistersFit (v : Row) (s : Registers) : Type 0 where
 -- the first n entries of a list go by a rule
 abbrev pub Entries : (ℕ → ℕ) → ℕ → List ℕ → Type 0
 Entries f n xs = (i : ℕ) → i < n → getD xs i 0 ≡ f i
-
-abbrev pub AreBits : List ℕ → Type 0
-AreBits xs = (i : ℕ) → getD xs i 0 < 2

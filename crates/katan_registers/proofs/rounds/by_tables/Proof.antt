@@ -1,14 +1,13 @@
-use mathlib.Core.Path.{ap, _∙_}
+use mathlib.Core.Path.{sym, ap, _∙_}
 use native.Mathlib.Omega.{arith}
-use borrow.Author.Tests.{le-leb, lt-leb}
 use Prim.Native.Nat.{_-_}
-use Rattle.katan.specs.Clock.{run, unrun, block, registers}
+use Rattle.katan.specs.Key.{keyNumber}
+use Rattle.katan.specs.Clock.{run, unrun, block, registers, inputOf}
 use Rattle.katan.specs.Variant.{rowOf}
 use Rattle.katan.specs.declared.Row.{Row}
 use Rattle.katan.proofs.Undo.{sound}
-use Rattle.katan_registers.specs.inner.Tables.{tableInput}
+use Rattle.katan.proofs.Positions.{at-later, at-earlier}
 use Rattle.katan_registers.proofs.Inputs.{loaded-fits, ran-fits, unran-fits}
-use borrow.Author.Needs.{needs}
 use Rattle.katan_registers.proofs.rounds.by_tables.Statement.{statement}
 use Rattle.katan_registers.proofs.rounds.by_tables.Tie as tie
 use Rattle.katan_registers.proofs.rounds.by_tables.Reads as reads
@@ -26,7 +25,7 @@ run-of-requires c κs =
     let d = c .before .before .before .before in
     let a = d .args in
     let s = c .before .before .before .registers-of .ensures ∙ ap (λ (r : Row). registers r (a .x)) (d .pre .2) in
-    (d .pre .0, d .pre .1, loaded-fits (rowOf (a .variant)) (sound (a .variant)) (a .x) (d .pre .3) _ s, d .pre .4, omega arith, omega arith)
+    (d .pre .0, d .pre .1, d .pre .3, d .pre .4, loaded-fits (rowOf (a .variant)) (sound (a .variant)) (a .x) (d .pre .7) _ s, omega arith, omega arith)
 
 block-of-requires : tie.Need-block-of-requires
 block-of-requires c κs =
@@ -37,7 +36,7 @@ block-of-requires c κs =
     let v = a .variant in (
       rw (d .pre .2) (sound v),
       rw (d .pre .2)
-          (ran-fits (rowOf v) (sound v) (a .counters .now) (a .keys .now) (d .pre .4) (a .from .0) (a .to .0 - a .from .0) (l .result) (loaded-fits (rowOf v) (sound v) (a .x) (d .pre .3) _ s) _ (c .run-of .ensures)),
+          (ran-fits (rowOf v) (sound v) (keyNumber (a .key)) (a .from .0) (a .to .0 - a .from .0) (l .result) (loaded-fits (rowOf v) (sound v) (a .x) (d .pre .7) _ s) _ v (c .run-of .ensures)),
     )
 
 unrun-of-requires : tie.Need-unrun-of-requires
@@ -45,7 +44,7 @@ unrun-of-requires c κs =
     let d = c .before .before .before .before in
     let a = d .args in
     let s = c .before .before .before .registers-of .ensures ∙ ap (λ (r : Row). registers r (a .x)) (d .pre .2) in
-    (d .pre .0, d .pre .1, loaded-fits (rowOf (a .variant)) (sound (a .variant)) (a .x) (d .pre .3) _ s, d .pre .4, omega arith, omega arith)
+    (d .pre .0, d .pre .1, d .pre .3, d .pre .4, loaded-fits (rowOf (a .variant)) (sound (a .variant)) (a .x) (d .pre .7) _ s, omega arith, omega arith)
 
 block-of-requires-2 : tie.Need-block-of-requires-2
 block-of-requires-2 c κs =
@@ -56,7 +55,7 @@ block-of-requires-2 c κs =
     let v = a .variant in (
       rw (d .pre .2) (sound v),
       rw (d .pre .2)
-          (unran-fits (rowOf v) (sound v) (a .counters .now) (a .keys .now) (d .pre .4) (a .to .0) (a .from .0 - a .to .0) (l .result) (loaded-fits (rowOf v) (sound v) (a .x) (d .pre .3) _ s) _ (c .unrun-of .ensures)),
+          (unran-fits (rowOf v) (sound v) (keyNumber (a .key)) (a .to .0) (a .from .0 - a .to .0) (l .result) (loaded-fits (rowOf v) (sound v) (a .x) (d .pre .7) _ s) _ v (c .unrun-of .ensures)),
     )
 
 returns : tie.Need-returns
@@ -65,10 +64,10 @@ returns c =
     let a = d .args in
     let v = a .variant in
     let s = c .before .before .before .before .before .registers-of .ensures ∙ ap (λ (r : Row). registers r (a .x)) (d .pre .2) in
-    rw (le-leb (a .from .0) (a .to .0) (c .before .before .if1 .taken))
-    (c .block-of .ensures
+    c .block-of .ensures
     ∙ ap (λ (r : Row). block r (c .before .run-of .result)) (d .pre .2)
-    ∙ ap (block (rowOf v)) (c .before .run-of .ensures ∙ ap (run (rowOf v) (tableInput (a .counters .now) (a .keys .now)) (a .from .0) (a .to .0 - a .from .0)) s))
+    ∙ ap (block (rowOf v)) (c .before .run-of .ensures ∙ ap (run (rowOf v) (inputOf v (keyNumber (a .key))) (a .from .0) (a .to .0 - a .from .0)) s)
+    ∙ sym (at-later v (keyNumber (a .key)) (a .from .0) (a .x) (a .to .0) (c .before .before .if1 .taken))
 
 returns-2 : tie.Need-returns-2
 returns-2 c =
@@ -76,10 +75,10 @@ returns-2 c =
     let a = d .args in
     let v = a .variant in
     let s = c .before .before .before .before .before .registers-of .ensures ∙ ap (λ (r : Row). registers r (a .x)) (d .pre .2) in
-    rw (lt-leb (a .from .0) (a .to .0) (c .before .before .if1 .left))
-    (c .block-of2 .ensures
+    c .block-of2 .ensures
     ∙ ap (λ (r : Row). block r (c .before .unrun-of .result)) (d .pre .2)
-    ∙ ap (block (rowOf v)) (c .before .unrun-of .ensures ∙ ap (unrun (rowOf v) (tableInput (a .counters .now) (a .keys .now)) (a .to .0) (a .from .0 - a .to .0)) s))
+    ∙ ap (block (rowOf v)) (c .before .unrun-of .ensures ∙ ap (unrun (rowOf v) (inputOf v (keyNumber (a .key))) (a .to .0) (a .from .0 - a .to .0)) s)
+    ∙ sym (at-earlier v (keyNumber (a .key)) (a .from .0) (a .x) (a .to .0) (c .before .before .if1 .left))
 
 pub by-tables-spec : {M : Type 1} → statement M
 by-tables-spec =

@@ -1,11 +1,12 @@
 -- `katan_registers::rounds::round_48` meets its contract.
 -- Assumes nothing.
-use mathlib.Core.Path.{sym, subst}
+use mathlib.Core.Path.{sym, ap, subst}
 use borrow.Author.Needs.{needs}
 use Rattle.katan.specs.Clock.{clock}
 use Rattle.katan.specs.Variant.{row48}
 use Rattle.katan.specs.inner.Within.{RegistersFit}
 use Rattle.katan.specs.declared.Row.{Row}
+use Rattle.katan_registers.specs.inner.Tables.{afterRound}
 use Rattle.katan_registers.proofs.Inputs.{row-sound, twice, clocked-fits}
 use Rattle.katan_registers.proofs.rounds.round_48.Statement.{statement}
 use Rattle.katan_registers.proofs.rounds.round_48.Tie as tie
@@ -16,22 +17,22 @@ row-48-requires c κs = search needs
 clock-of-requires : tie.Need-clock-of-requires
 clock-of-requires c κs =
     let r = c .row-48 in
-    let d = c .before in
+    let d = c .before .before .before in
     let s = row-sound 2 (r .result) (r .ensures) in
     (s, d .pre .0, subst (λ (x : Row). RegistersFit x (d .args .s)) (sym (r .ensures)) (d .pre .1))
 
 clock-of-requires-2 : tie.Need-clock-of-requires-2
 clock-of-requires-2 c κs =
     let r = c .before .row-48 in
-    let d = c .before .before in
+    let d = c .before .before .before .before in
     let s = row-sound 2 (r .result) (r .ensures) in
-    (s, d .pre .0, clocked-fits (r .result) (d .args .u) (d .args .s) (c .clock-of .result) (c .clock-of .ensures))
+    (s, d .pre .0, clocked-fits (r .result) (d .args .f .input) (d .args .s) (c .clock-of .result) (c .clock-of .ensures))
 
 returns : tie.Need-returns
 returns c =
     let r = c .before .before .row-48 in
-    let a = c .before .before .before .args in
-    twice (λ v s. clock v (a .u) s) row48 (r .result) (r .ensures) (a .s) _ (c .before .clock-of .ensures) _ (c .clock-of2 .ensures)
+    let a = c .before .before .before .before .before .args in
+    ap (afterRound (a .f)) (twice (λ v s. clock v (a .f .input) s) row48 (r .result) (r .ensures) (a .s) _ (c .before .clock-of .ensures) _ (c .clock-of2 .ensures))
 
 pub round-48-spec : {M : Type 1} → statement M
 round-48-spec = tie.close (tie.spec row-48-requires clock-of-requires clock-of-requires-2 returns)

@@ -1,95 +1,111 @@
-use mathlib.Core.Path.{_≡_, refl, ap, ap₂, _∙_}
+use mathlib.Core.Path.{_≡_, refl, sym, ap, ap₂, _∙_}
 use Prim.Native.Nat.{ℕ, _+_, _-_, _≤_}
+use native.Mathlib.Nat.{add-zero, add-assoc}
 use native.Mathlib.Numerals.{add-one}
 use native.Mathlib.Omega.{arith}
-use Rattle.katan.specs.Clock.{round, run}
+use borrow.Author.Needs.{needs}
+use Rattle.katan.specs.Key.{keyNumber}
+use Rattle.katan.specs.Clock.{round, run, inputOf}
 use Rattle.katan.specs.Variant.{rowOf}
 use Rattle.katan.specs.inner.Within.{RegistersFit}
+use Rattle.katan.specs.declared.Registers.{Registers}
+use Rattle.katan.specs.declared.RoundInput.{RoundInput}
 use Rattle.katan.proofs.Undo.{sound}
-use Rattle.katan_registers.specs.inner.Tables.{tableInput}
-use Rattle.katan_registers.proofs.Inputs.{input-bits, round-fits}
-use borrow.Author.Needs.{needs}
+use Rattle.katan_keys.specs.Window.{windowNumber, sourceAt}
+use Rattle.katan_registers.specs.declared.rounds.Running.{Running}
+use Rattle.katan_registers.proofs.Inputs.{input-bits, table-input, source-next, round-fits}
 use Rattle.katan_registers.proofs.rounds.run_of.Statement.{statement}
 use Rattle.katan_registers.proofs.rounds.run_of.Tie as tie
 use Rattle.katan_registers.proofs.rounds.run_of.Reads as reads
 use Rattle.katan_registers.proofs.rounds.run_of.Lts as lts
-use Rattle.katan_registers.proofs.rounds.input_of.Reads as input-of-reads
+use Rattle.katan_keys.proofs.source_at.Reads as source-at-reads
 use Rattle.katan_registers.proofs.rounds.round_of.Reads as round-of-reads
 
+-- i rounds on from the first: the registers, and the window or key that the next round finds its key bits in
+abbrev Reached : (v key first i : ℕ) → Registers → Running → Type 0
+Reached v key first i s h = (h .registers ≡ run (rowOf v) (inputOf v key) first i s) × (windowNumber (h .source) ≡ sourceAt v key (first + i))
+
+abbrev round-on : ℕ → RoundInput → Registers → Registers
+round-on v = round (rowOf v)
+
 abbrev Inv-loop : tie.InvT-loop
-Inv-loop variant counters keys first count t₀ i₀ t i = (t ≡ run (rowOf variant) (tableInput counters keys) first i t₀) × RegistersFit (rowOf variant) t × (i ≤ count)
+Inv-loop variant counters numbers first count h₀ i₀ h i =
+    ((key : ℕ) → windowNumber (h₀ .source) ≡ sourceAt variant key first → Reached variant key first i (h₀ .registers) h)
+    × RegistersFit (rowOf variant) (h .registers)
+    × (i ≤ count)
 
 abbrev μ-loop : tie.MeasureT-loop
-μ-loop variant counters keys first count t₀ i₀ t i = count - i
+μ-loop variant counters numbers first count h₀ i₀ h i = count - i
 
+-- src/rounds.rt:222:17
 cast-first : tie.Need-cast-first Inv-loop μ-loop
 cast-first c = search needs
 
+-- src/rounds.rt:223:17
 cast-count : tie.Need-cast-count Inv-loop μ-loop
 cast-count c = search needs
 
+-- src/rounds.rt:223:17
 sub-count : tie.Need-sub-count Inv-loop μ-loop
 sub-count c = omega arith
 
+-- src/rounds.rt:226:17
+source-at-requires : tie.Need-source-at-requires Inv-loop μ-loop
+source-at-requires c κs = search needs
+
+-- src/rounds.rt:228:5
 loop-holds : tie.Need-loop-holds Inv-loop μ-loop
-loop-holds c = (refl, c .before .before .pre .2, omega arith)
+loop-holds c =
+    let d = c .before .before .before in
+    let v = d .args .variant in
+    (λ key e. (refl, e ∙ ap (sourceAt v key) (sym (add-zero (d .args .from .0)))), d .pre .4, omega arith)
 
-add-r : tie.Need-add-r Inv-loop μ-loop
-add-r c = omega arith
+-- src/rounds.rt:229:50
+add-round-of : tie.Need-add-round-of Inv-loop μ-loop
+add-round-of c = omega arith
 
-mul-k : tie.Need-mul-k Inv-loop μ-loop
-mul-k c = omega arith
-
-element-copy-out-input-of : tie.Need-element-copy-out-input-of Inv-loop μ-loop
-element-copy-out-input-of c = omega arith
-
-element-copy-out-input-of-2 : tie.Need-element-copy-out-input-of-2 Inv-loop μ-loop
-element-copy-out-input-of-2 c = omega arith
-
-add-input-of : tie.Need-add-input-of Inv-loop μ-loop
-add-input-of c = omega arith
-
-element-copy-out-input-of-3 : tie.Need-element-copy-out-input-of-3 Inv-loop μ-loop
-element-copy-out-input-of-3 c = omega arith
-
-input-of-requires : tie.Need-input-of-requires Inv-loop μ-loop
-input-of-requires c κs = search needs
-
+-- src/rounds.rt:229:9
 round-of-requires : tie.Need-round-of-requires Inv-loop μ-loop
 round-of-requires c κs =
-    let l = c .before .before .before .before .before in
-    let d = l .before .before .before in
-    let a = d .args in
-    let r = a .from .0 + l .loop .i in
-    let e : c .input-of .result ≡ tableInput (a .counters .now) (a .keys .now) r = c .input-of .ensures in
-    (d .pre .0, d .pre .1, input-bits (a .counters .now) (a .keys .now) (d .pre .3) r _ e, l .loop .inv .1)
+    let l = c .before in
+    let d = l .before .before .before .before in
+    (d .pre .0, d .pre .1, omega arith, l .loop .inv .1)
 
+-- src/rounds.rt:228:9
 add-i : tie.Need-add-i Inv-loop μ-loop
 add-i c = omega arith
 
+-- src/rounds.rt:228:5
 loop-less : tie.Need-loop-less Inv-loop μ-loop
 loop-less c = omega arith
 
+-- src/rounds.rt:228:5
 loop-again : tie.Need-loop-again Inv-loop μ-loop
 loop-again c =
-    let l = c .before .before .before .before .before .before .loop in
-    let d = c .before .before .before .before .before .before .before .before .before in
+    let l = c .before .before .loop in
+    let d = c .before .before .before .before .before .before in
     let a = d .args in
     let v = a .variant in
-    let u = tableInput (a .counters .now) (a .keys .now) in
-    let e : c .before .input-of .result ≡ u (a .from .0 + l .i) = c .before .input-of .ensures in
-    let b = input-bits (a .counters .now) (a .keys .now) (d .pre .3) (a .from .0 + l .i) _ e in (
-      rw add-one (c .round-of .ensures ∙ ap₂ (round (rowOf v)) e (l .inv .0)),
-      round-fits (rowOf v) (sound v) _ b (l .t) (l .inv .1) _ (c .round-of .ensures),
+    let r = a .from .0 + l .i in
+    let w = windowNumber (l .h .source) in
+    let round = c .round-of .ensures in (
+      λ key e.
+          let before = l .inv .0 key e in
+          let input = table-input v key (a .counters .now) (a .numbers .now) (d .pre .2) (d .pre .3) r w (omega arith) (before .1) in
+          (rw add-one (round .0 ∙ ap₂ (round-on v) input (before .0)), round .1 ∙ source-next v key r w (before .1) ∙ ap (sourceAt v key) (add-assoc (a .from .0) (l .i) 1)),
+      round-fits (rowOf v) (sound v) _ (input-bits v (a .counters .now) (a .numbers .now) r w _ refl) (l .h .registers) (l .inv .1) _ (round .0),
       omega arith,
     )
 
+-- src/rounds.rt:210:1
 returns : tie.Need-returns Inv-loop μ-loop
 returns c =
-    let l = c .before in
-    let a = l .before .before .before .args in
-    let e : l .loop .i ≡ a .to .0 - a .from .0 = omega arith in
-    l .loop .inv .0 ∙ ap (λ (n : ℕ). run (rowOf (a .variant)) (tableInput (a .counters .now) (a .keys .now)) (a .from .0) n (a .s)) e
+    let l = c .before .before .loop in
+    let d = c .before .before .before .before .before .before in
+    let a = d .args in
+    let all : l .i ≡ a .to .0 - a .from .0 = omega arith in
+    l .inv .0 (keyNumber (a .key)) (c .before .before .before .source-at .ensures) .0
+    ∙ ap (λ (n : ℕ). run (rowOf (a .variant)) (inputOf (a .variant) (keyNumber (a .key))) (a .from .0) n (a .s)) all
 
 pub run-of-spec : {M : Type 1} → statement M
 run-of-spec =
@@ -100,14 +116,9 @@ run-of-spec =
     cast-first
     cast-count
     sub-count
+    source-at-requires
     loop-holds
-    add-r
-    mul-k
-    element-copy-out-input-of
-    element-copy-out-input-of-2
-    add-input-of
-    element-copy-out-input-of-3
-    input-of-requires
+    add-round-of
     round-of-requires
     add-i
     loop-less

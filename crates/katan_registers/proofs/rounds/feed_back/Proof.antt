@@ -1,0 +1,26 @@
+use mathlib.Core.Path.{ap, _∙_}
+use Rattle.katan_registers.specs.inner.Tables.{tableInput}
+use borrow.Author.Needs.{needs}
+use Rattle.katan_registers.proofs.rounds.feed_back.Statement.{statement}
+use Rattle.katan_registers.proofs.rounds.feed_back.Tie as tie
+use Rattle.katan_registers.proofs.rounds.feed_back.Reads as reads
+use Rattle.katan_registers.proofs.rounds.feed_back.Lts as lts
+use Rattle.katan_keys.proofs.previous_source.Reads as previous-source-reads
+use Rattle.katan_registers.proofs.rounds.input_of.Reads as input-of-reads
+
+-- src/rounds.rt:95:9
+previous-source-requires : tie.Need-previous-source-requires
+previous-source-requires c κs = search needs
+
+-- src/rounds.rt:97:16
+input-of-requires : tie.Need-input-of-requires
+input-of-requires c κs = search needs
+
+-- src/rounds.rt:85:1
+returns : tie.Need-returns
+returns c =
+    let a = c .before .before .args in
+    (c .input-of .ensures ∙ ap (tableInput (a .variant) (a .counters .now) (a .numbers .now) (a .r)) (c .before .previous-source .ensures), c .before .previous-source .ensures)
+
+pub feed-back-spec : {M : Type 1} → statement M
+feed-back-spec = tie.close (tie.spec previous-source-requires input-of-requires returns)
