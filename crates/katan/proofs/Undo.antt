@@ -147,3 +147,8 @@ module _ (v : Row) (u w : ℕ → RoundInput) (p : ℕ) where
   pub run-same : (c : ℕ) (s : Registers) → ((i : ℕ) → i < c → u (p + i) ≡ w (p + i)) → run v u p c s ≡ run v w p c s
   run-same zero s h = refl
   run-same (suc c) s h = ap₂ (round v) (h c (omega arith)) (run-same c s (λ i q. h i (omega arith)))
+
+  pub unrun-same : (c : ℕ) (s : Registers) → ((i : ℕ) → i < c → u (p + i) ≡ w (p + i)) → unrun v u p c s ≡ unrun v w p c s
+  unrun-same zero s h = refl
+  unrun-same (suc c) s h =
+      ap (λ (x : RoundInput). unrun v u p c (unround v x s)) (h c (omega arith)) ∙ unrun-same c (unround v (w (p + c)) s) (λ i q. h i (omega arith))

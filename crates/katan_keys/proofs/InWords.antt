@@ -8,16 +8,35 @@ use lib.Bits.{bitOr, or-shifted}
 use lib.Pow.{pow-pos, pow-add, pow-mono, shl-exact, shl-lt, shr-lt, split, mod-pow-add, high, low}
 use Rattle.katan.specs.Bit.{xor}
 use Rattle.katan.specs.Key.{keyLength, kRule}
-use Rattle.katan.proofs.Bits.{joined-lt}
+use Rattle.katan.proofs.Bits.{one-shifted, joined-lt}
 use Rattle.katan_keys.specs.Window.{ahead, behind}
 use Rattle.katan_keys.proofs.Words.{low-same, lifted, from-low, from-high, shifted-down}
 
+-- any bits that enter at the top leave the high word a word
+module _ (h c e : ℕ) (few : c ≤ 6) where
+  -- a shift as the code has it
+  entered : ((e % ((1 * 2 ^ (2 * c)) % 2 ^ 64)) * 2 ^ (16 - 2 * c)) % 2 ^ 64 ≡ (e % 2 ^ (2 * c)) * 2 ^ (16 - 2 * c)
+  entered =
+      ap (λ (n : ℕ). ((e % n) * 2 ^ (16 - 2 * c)) % 2 ^ 64) (one-shifted (2 * c) (omega arith))
+      ∙ shl-exact {a = e % 2 ^ (2 * c)} (2 * c) (16 - 2 * c) 64 (mod-lt e (pow-pos (2 * c))) (omega arith)
+
+  pub high-fits : 1 ≤ c → h < 2 ^ 64 → h / 2 ^ (2 * c) + ((e % ((1 * 2 ^ (2 * c)) % 2 ^ 64)) * 2 ^ (16 - 2 * c)) % 2 ^ 64 < 2 ^ 64
+  high-fits some r =
+      let s = 2 * c in
+      let rest : ℕ = 64 - s in
+      let parts : 64 ≡ rest + s = omega arith in
+      let place : s + (16 - s) ≡ 16 = omega arith in
+      let above : h / 2 ^ s < 2 ^ 62 = lt-of-lt-of-le (shr-lt rest s (rw (← parts) r)) (pow-mono {i = rest} {j = 62} (omega arith)) in
+      let new : (e % 2 ^ s) * 2 ^ (16 - s) < 2 ^ 16
+      = subst (λ (n : ℕ). (e % 2 ^ s) * 2 ^ (16 - s) < 2 ^ n) place (shl-lt {a = e % 2 ^ s} s (16 - s) (mod-lt e (pow-pos s))) in
+      omega (arith, entered, above, new)
+
 module _ (h l c : ℕ) (q : l < 2 ^ 64) (few : c ≤ 6) where
   abbrev enters : ℕ
-  enters = xor (xor (xor l (l / 2 ^ 19)) (l / 2 ^ 30)) (h / 2 ^ 3) % 2 ^ (2 * c)
+  enters = xor (xor (xor l (l / 2 ^ 19)) (l / 2 ^ 30)) (h / 2 ^ 3)
 
-  -- the rule's bits come from the low word, and the farthest from the high word
-  rule-words : kRule xor (λ j. (h * 2 ^ 64 + l) / 2 ^ j) keyLength % 2 ^ (2 * c) ≡ enters
+  -- the rule's bits come from the low word, and the nearest from the high word
+  rule-words : kRule xor (λ j. (h * 2 ^ 64 + l) / 2 ^ j) keyLength % 2 ^ (2 * c) ≡ enters % 2 ^ (2 * c)
   rule-words =
       let s = 2 * c in
       let x = h * 2 ^ 64 + l in
@@ -27,33 +46,22 @@ module _ (h l c : ℕ) (q : l < 2 ^ 64) (few : c ≤ 6) where
       (from-low h q 30 s (omega arith))
       (ap (λ (y : ℕ). y % 2 ^ s) (from-high h q 3))
 
-  pub entered : (enters * 2 ^ (16 - 2 * c)) % 2 ^ 64 ≡ enters * 2 ^ (16 - 2 * c)
-  entered = shl-exact {a = enters} (2 * c) (16 - 2 * c) 64 (mod-lt _ (pow-pos (2 * c))) (omega arith)
-
-  pub high-fits : 1 ≤ c → h < 2 ^ 64 → h / 2 ^ (2 * c) + enters * 2 ^ (16 - 2 * c) < 2 ^ 64
-  high-fits some r =
-      let s = 2 * c in
-      let rest : ℕ = 64 - s in
-      let parts : 64 ≡ rest + s = omega arith in
-      let place : s + (16 - s) ≡ 16 = omega arith in
-      let above : h / 2 ^ s < 2 ^ 62 = lt-of-lt-of-le (shr-lt rest s (rw (← parts) r)) (pow-mono {i = rest} {j = 62} (omega arith)) in
-      let new : enters * 2 ^ (16 - s) < 2 ^ 16 = subst (λ (n : ℕ). enters * 2 ^ (16 - s) < 2 ^ n) place (shl-lt {a = enters} s (16 - s) (mod-lt _ (pow-pos s))) in
-      omega (arith, above, new)
-
-  pub ahead-words : (h / 2 ^ (2 * c) + enters * 2 ^ (16 - 2 * c)) * 2 ^ 64 + bitOr ((h * 2 ^ (64 - 2 * c)) % 2 ^ 64) (l / 2 ^ (2 * c)) ≡ ahead c (h * 2 ^ 64 + l)
+  pub ahead-words : (h / 2 ^ (2 * c) + ((enters % ((1 * 2 ^ (2 * c)) % 2 ^ 64)) * 2 ^ (16 - 2 * c)) % 2 ^ 64) * 2 ^ 64 + bitOr ((h * 2 ^ (64 - 2 * c)) % 2 ^ 64) (l / 2 ^ (2 * c)) ≡ ahead c (h * 2 ^ 64 + l)
   unfolding ahead
   ahead-words =
       let s = 2 * c in
+      let e : ℕ = enters % 2 ^ s in
       let parts : 64 ≡ (64 - s) + s = omega arith in
       let small : l / 2 ^ s < 2 ^ (64 - s) = shr-lt (64 - s) s (rw (← parts) q) in
       let joined : bitOr ((h * 2 ^ (64 - s)) % 2 ^ 64) (l / 2 ^ s) ≡ (h % 2 ^ s) * 2 ^ (64 - s) + l / 2 ^ s
       = ap (λ (y : ℕ). bitOr y (l / 2 ^ s)) (lifted h s (omega arith)) ∙ or-shifted (h % 2 ^ s) (64 - s) (l / 2 ^ s) small in
       let place : (16 - s) + 64 ≡ keyLength - s = omega arith in
-      let top : enters * 2 ^ (16 - s) * 2 ^ 64 ≡ enters * 2 ^ (keyLength - s)
-      = mul-assoc enters (2 ^ (16 - s)) (2 ^ 64) ∙ ap (enters *_) (sym (pow-add 2 (16 - s) 64) ∙ ap (λ (n : ℕ). 2 ^ n) place) in
-      let rule : enters * 2 ^ (keyLength - s) ≡ kRule xor (λ j. (h * 2 ^ 64 + l) / 2 ^ j) keyLength % 2 ^ s * 2 ^ (keyLength - s)
+      let top : e * 2 ^ (16 - s) * 2 ^ 64 ≡ e * 2 ^ (keyLength - s)
+      = mul-assoc e (2 ^ (16 - s)) (2 ^ 64) ∙ ap (e *_) (sym (pow-add 2 (16 - s) 64) ∙ ap (λ (n : ℕ). 2 ^ n) place) in
+      let rule : e * 2 ^ (keyLength - s) ≡ kRule xor (λ j. (h * 2 ^ 64 + l) / 2 ^ j) keyLength % 2 ^ s * 2 ^ (keyLength - s)
       = ap (λ (y : ℕ). y * 2 ^ (keyLength - s)) (sym rule-words) in
-      omega (arith, add-mul (h / 2 ^ s) (enters * 2 ^ (16 - s)) (2 ^ 64), joined, top, rule, shifted-down h q s (omega arith))
+      ap (λ (y : ℕ). (h / 2 ^ s + y) * 2 ^ 64 + bitOr ((h * 2 ^ (64 - s)) % 2 ^ 64) (l / 2 ^ s)) (entered h c enters few)
+      ∙ omega (arith, add-mul (h / 2 ^ s) (e * 2 ^ (16 - s)) (2 ^ 64), joined, top, rule, shifted-down h q s (omega arith))
 
 module _ (h l : ℕ) (q : l < 2 ^ 64) where
   abbrev returns : ℕ

@@ -19,7 +19,7 @@ use Rattle.katan.specs.declared.Registers.{Registers}
 use Rattle.katan.specs.declared.RoundInput.{RoundInput}
 use Rattle.katan.proofs.Bits.{bit-lt}
 use Rattle.katan.proofs.Tables.{entry}
-use Rattle.katan.proofs.Keys.{ktantan-input} 
+use Rattle.katan.proofs.Keys.{ktantan-input}
 use Rattle.katan.proofs.Keys.{input-bits as inputs-bits}
 use Rattle.katan.proofs.Undo.{sound, clock-fits, unclock-fits, clocks-fit, unclocks-fit, run-fits, unrun-fits}
 use Rattle.katan.proofs.Positions.{registers-fit}
@@ -86,8 +86,11 @@ module _ (step : Row → RoundInput → Registers → Registers) (row : Row) (v 
 
 -- ---- the tables and the source of a position give each round its input
 
-abbrev input : ℕ → ℕ → ℕ → RoundInput
+abbrev pub input : ℕ → ℕ → ℕ → RoundInput
 input x y z = record { ir = x; ka = y; kb = z }
+
+pub same-input : {x y z x′ y′ z′ : ℕ} → x ≡ x′ → y ≡ y′ → z ≡ z′ → input x y z ≡ input x′ y′ z′
+same-input {x} e f g = rw (e, f, g)
 
 module _ (v key : ℕ) (counters numbers : List ℕ) (e : counters ≡ tabulate counter 0 rounds) (f : numbers ≡ tabulate keyBitNumber 0 (2 * rounds)) where
   pub table-input : (r w : ℕ) → r < rounds → w ≡ sourceAt v key r → tableInput v counters numbers r w ≡ inputOf v key r

@@ -75,9 +75,10 @@ fn feed(
     requires { ⌜ r < rounds ⌝ }
     ensures { λ f. ⌜ (f .input ≡ tableInput variant (now (counters .entry)) (now (numbers .entry)) r (windowNumber source)) × (windowNumber (f .source) ≡ nextSource variant (windowNumber source)) ⌝ }
 {
+    let next = katan_keys::next_source(variant, source);
     Fed {
         input: input_of(variant, counters, numbers, r, source),
-        source: katan_keys::next_source(variant, source),
+        source: next,
     }
 }
 

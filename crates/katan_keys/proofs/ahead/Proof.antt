@@ -2,7 +2,7 @@ use Prim.Native.Nat.{_*_}
 use native.Mathlib.Omega.{arith}
 use lib.Pow.{pow-pos}
 use Rattle.katan.proofs.Bits.{one-shifted}
-use Rattle.katan_keys.proofs.InWords.{entered, high-fits, ahead-words}
+use Rattle.katan_keys.proofs.InWords.{high-fits, ahead-words}
 use borrow.Author.Needs.{needs}
 use Rattle.katan_keys.proofs.ahead.Statement.{statement}
 use Rattle.katan_keys.proofs.ahead.Tie as tie
@@ -52,16 +52,14 @@ add-t16 : tie.Need-add-t16
 add-t16 c =
     let d = c .before .before .before .before .before .before .before in
     let w = d .args .w in
-    let n = d .args .c in
-    rw (one-shifted (2 * n) (omega arith), entered (w .high) (w .low) n (search needs) (d .pre .1)) (omega (arith, high-fits (w .high) (w .low) n (search needs) (d .pre .1) (d .pre .0) (search needs)))
+    record { fits = high-fits (w .high) (d .args .c) _ (d .pre .1) (d .pre .0) (search needs) }
 
 -- src/lib.rt:21:1
 returns : tie.Need-returns
 returns c =
     let d = c .before .before .before .before .before .before .before in
     let w = d .args .w in
-    let n = d .args .c in
-    rw (one-shifted (2 * n) (omega arith), entered (w .high) (w .low) n (search needs) (d .pre .1)) (ahead-words (w .high) (w .low) n (search needs) (d .pre .1))
+    ahead-words (w .high) (w .low) (d .args .c) (search needs) (d .pre .1)
 
 pub ahead-spec : {M : Type 1} → statement M
 ahead-spec =

@@ -5,7 +5,7 @@ use native.Mathlib.Omega.{arith}
 use Rattle.katan.specs.Key.{keyLength, keyNumber}
 use Rattle.katan.specs.Variant.{isKatan}
 use Rattle.katan.proofs.Bits.{joined-lt}
-use Rattle.katan_keys.specs.Window.{windowAt, ahead, times}
+use Rattle.katan_keys.specs.Window.{windowNumber, windowAt, ahead, times}
 use Rattle.katan_keys.proofs.Running.{first-window, steps-window}
 use borrow.Author.Needs.{needs}
 use Rattle.katan_keys.proofs.source_at.Statement.{statement}
@@ -45,13 +45,15 @@ returns c =
     let p = a .at .0 in
     let fits : key < 2 ^ keyLength = joined-lt 64 (a .key .high) (search needs) 16 (search needs) in
     let kind : isKatan (a .variant) ≡ true = sym (b .before .is-katan .ensures) ∙ b .if1 .taken in
+    let sixes = c .before .steps in
+    let start = b .before .before .key-words in
+    let far : windowNumber (sixes .result) ≡ times (p / 6) (ahead 6) (windowNumber (start .result)) = sixes .ensures in
+    let near : windowNumber (c .steps2 .result) ≡ times (p % 6) (ahead 1) (windowNumber (sixes .result)) = c .steps2 .ensures in
     let whole : 0 + p / 6 * 6 + p % 6 * 1 ≡ p = omega arith in
     rw kind
-    (c .steps2 .ensures
+    (near
     ∙ ap (times (p % 6) (ahead 1))
-    (c .before .steps .ensures
-    ∙ ap (times (p / 6) (ahead 6)) (b .before .before .key-words .ensures ∙ sym (first-window key fits))
-    ∙ steps-window key 0 6 (p / 6) (omega arith))
+    (far ∙ ap (times (p / 6) (ahead 6)) (start .ensures ∙ sym (first-window key fits)) ∙ steps-window key 0 6 (p / 6) (omega arith))
     ∙ steps-window key (0 + p / 6 * 6) 1 (p % 6) (omega arith)
     ∙ ap (windowAt key) whole)
 

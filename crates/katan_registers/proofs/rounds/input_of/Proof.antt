@@ -1,6 +1,10 @@
-use mathlib.Core.Path.{_≡_, sym, _∙_}
+use mathlib.Core.Path.{_≡_, sym, ap, _∙_}
 use mathlib.Core.Bool.{true, false}
+use Rattle.katan.specs.Bit.{bit}
+use Rattle.katan.specs.Counter.{irOf}
 use Rattle.katan.specs.Variant.{isKatan}
+use Rattle.katan_keys.specs.Window.{windowNumber}
+use Rattle.katan_registers.proofs.Inputs.{same-input}
 use borrow.Author.Needs.{needs}
 use Rattle.katan_registers.proofs.rounds.input_of.Statement.{statement}
 use Rattle.katan_registers.proofs.rounds.input_of.Tie as tie
@@ -35,8 +39,12 @@ bit-at-requires-2 c κs = search needs
 returns : tie.Need-returns
 returns c =
     let b = c .before .before in
-    let kind : isKatan (b .before .before .before .before .args .variant) ≡ true = sym (b .before .is-katan .ensures) ∙ b .if1 .taken in
-    rw kind cc
+    let w = b .before .before in
+    let a = w .before .before .args in
+    let kind : isKatan (a .variant) ≡ true = sym (b .before .is-katan .ensures) ∙ b .if1 .taken in
+    let first : c .before .bit-at .result ≡ bit (windowNumber (a .source)) 0 = c .before .bit-at .ensures in
+    let second : c .bit-at2 .result ≡ bit (windowNumber (a .source)) 1 = c .bit-at2 .ensures in
+    rw kind (same-input (ap irOf (w .wide .ensures)) first second)
 
 -- src/rounds.rt:59:13
 mul-i : tie.Need-mul-i
@@ -74,8 +82,14 @@ bit-at-requires-4 c κs = search needs
 returns-2 : tie.Need-returns-2
 returns-2 c =
     let b = c .before .before .before .before .before .before in
-    let kind : isKatan (b .before .before .before .before .args .variant) ≡ false = sym (b .before .is-katan .ensures) ∙ b .if1 .left in
-    rw kind cc
+    let w = b .before .before in
+    let a = w .before .before .args in
+    let kind : isKatan (a .variant) ≡ false = sym (b .before .is-katan .ensures) ∙ b .if1 .left in
+    let ka = c .before .before .before in
+    rw kind
+    (same-input (ap irOf (w .wide .ensures))
+    (ka .bit-at3 .ensures ∙ ap (bit (windowNumber (a .source))) (ka .before .index-of .ensures))
+    (c .bit-at4 .ensures ∙ ap (bit (windowNumber (a .source))) (c .before .index-of2 .ensures)))
 
 pub input-of-spec : {M : Type 1} → statement M
 input-of-spec =
