@@ -9,11 +9,11 @@ use lib.Pow.{pow-pos, pow-add, pow-mono, shl-exact, shl-lt, shr-lt, split, mod-p
 use Rattle.katan.specs.Bit.{xor}
 use Rattle.katan.specs.Key.{keyLength, kRule}
 use Rattle.katan.proofs.Bits.{one-shifted, joined-lt}
-use Rattle.katan_keys.specs.Window.{ahead, behind}
+use Rattle.katan_keys.specs.Window.{longestStep, ahead, behind}
 use Rattle.katan_keys.proofs.Words.{low-same, lifted, from-low, from-high, shifted-down}
 
 -- any bits that enter at the top leave the high word a word
-module _ (h c e : ℕ) (few : c ≤ 6) where
+module _ (h c e : ℕ) (few : c ≤ longestStep) where
   -- a shift as the code has it
   entered : ((e % ((1 * 2 ^ (2 * c)) % 2 ^ 64)) * 2 ^ (16 - 2 * c)) % 2 ^ 64 ≡ (e % 2 ^ (2 * c)) * 2 ^ (16 - 2 * c)
   entered =
@@ -31,7 +31,7 @@ module _ (h c e : ℕ) (few : c ≤ 6) where
       = subst (λ (n : ℕ). (e % 2 ^ s) * 2 ^ (16 - s) < 2 ^ n) place (shl-lt {a = e % 2 ^ s} s (16 - s) (mod-lt e (pow-pos s))) in
       omega (arith, entered, above, new)
 
-module _ (h l c : ℕ) (q : l < 2 ^ 64) (few : c ≤ 6) where
+module _ (h l c : ℕ) (q : l < 2 ^ 64) (few : c ≤ longestStep) where
   abbrev enters : ℕ
   enters = xor (xor (xor l (l / 2 ^ 19)) (l / 2 ^ 30)) (h / 2 ^ 3)
 

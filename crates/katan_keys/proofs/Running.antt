@@ -11,9 +11,11 @@ use lib.Pow.{pow-pos, shr-lt}
 use Rattle.katan.specs.Bit.{bit, xor}
 use Rattle.katan.specs.Counter.{counter, irOf, rounds}
 use Rattle.katan.specs.Key.{keyLength, kRule, k}
+use Rattle.katan.specs.Variant.{lastKatan}
+use Rattle.katan.specs.Clock.{inputOf}
 use Rattle.katan.proofs.Bits.{bit-mod, bit-below, bit-above, bit-shr, bit-xor, joined-lt, from-bits-lt, bit-from-bits, bits-equal, xor-undone}
 use Rattle.katan.proofs.Keys.{k-key, k-next, k-bit, katan-input}
-use Rattle.katan_keys.specs.Window.{windowAt, ahead, behind, times, RunningWindow}
+use Rattle.katan_keys.specs.Window.{longestStep, windowAt, ahead, behind, times, RunningWindow}
 
 -- ---- the window's bits
 
@@ -49,7 +51,7 @@ by-place P m low high i = place (leb m i) refl
     place true e = subst P (add-sub-of-le (leb-true m i e)) (high (i - m))
     place false e = low i (leb-false m i e)
 
-module _ (key p c : ℕ) (few : c ≤ 6) where
+module _ (key p c : ℕ) (few : c ≤ longestStep) where
   -- the bits that enter at the top
   entering : (j : ℕ) → j < 2 * c → bit (kRule xor (λ d. windowAt key p / 2 ^ d) keyLength % 2 ^ (2 * c)) j ≡ k key (2 * p + keyLength + j)
   entering j q =
@@ -117,23 +119,37 @@ module _ (key p c : ℕ) (few : c ≤ 6) where
 -- ---- many steps
 
 -- n steps of c rounds
-pub steps-window : (key p c n : ℕ) → c ≤ 6 → times n (ahead c) (windowAt key p) ≡ windowAt key (p + n * c)
+pub steps-window : (key p c n : ℕ) → c ≤ longestStep → times n (ahead c) (windowAt key p) ≡ windowAt key (p + n * c)
 steps-window key p c zero few = ap (windowAt key) (omega arith)
 steps-window key p c (suc n) few =
     ap (ahead c) (steps-window key p c n few) ∙ ahead-window key (p + n * c) c few ∙ ap (windowAt key) (omega (arith, suc-mul n c))
 
--- THEOREM: the claim of every key and every position
-pub running-window : (key p : ℕ) → RunningWindow key p
-running-window key p =
+-- the key bits of KATAN's round p
+first-two : (v key p : ℕ) → v ≤ lastKatan → p < rounds → inputOf v key p ≡ record { ir = irOf (counter p); ka = bit (windowAt key p) 0; kb = bit (windowAt key p) 1 }
+first-two v key p h q =
+    katan-input v key p h q
+    ∙ ap₂ (λ (x y : ℕ). record { ir = irOf (counter p); ka = x; kb = y })
+    (ap (k key) (omega arith) ∙ sym (window-bit key p 0 (omega arith))) (sym (window-bit key p 1 (omega arith)))
+
+-- c rounds on of any 80 bits, which are the window of themselves as a key
+singly : (c w : ℕ) → c ≤ longestStep → w < 2 ^ keyLength → ahead c w ≡ times c (ahead 1) w
+singly c w few h =
+    let e = first-window w h in
+    ap (ahead c) (sym e)
+    ∙ ahead-window w 0 c few
+    ∙ ap (λ (x : ℕ). windowAt w (0 + x)) (sym (mul-one c))
+    ∙ sym (steps-window w 0 1 c (omega arith))
+    ∙ ap (times c (ahead 1)) e
+
+-- THEOREM: the claim
+pub running-window : RunningWindow
+running-window =
     record {
-      its-bits = window-bit key p;
-      no-more = window-lt key p;
-      first = first-window key;
-      forth = ahead-window key p 1 (omega arith);
-      back = behind-window key p 1 (omega arith);
-      at-once = λ c few. ahead-window key p c few ∙ ap (λ (x : ℕ). windowAt key (p + x)) (sym (mul-one c)) ∙ sym (steps-window key p 1 c (omega arith));
-      taken = λ v h q.
-          katan-input v key p h q
-          ∙ ap₂ (λ (x y : ℕ). record { ir = irOf (counter p); ka = x; kb = y })
-          (ap (k key) (omega arith) ∙ sym (window-bit key p 0 (omega arith))) (sym (window-bit key p 1 (omega arith)));
+      its-bits = window-bit;
+      no-more = window-lt;
+      first = first-window;
+      forth = λ key p. ahead-window key p 1 (omega arith);
+      back = λ key p. behind-window key p 1 (omega arith);
+      at-once = singly;
+      taken = first-two;
     }

@@ -13,6 +13,10 @@ use Rattle.katan_keys.specs.declared.Window.{Window}
 unfoldable pub windowAt : (key p : ℕ) → ℕ
 windowAt key p = fromBits (λ i. k key (2 * p + i)) keyLength
 
+-- the most rounds of one step: the nearest bit of the rule is 13 back, and a round takes two
+abbrev pub longestStep : ℕ
+longestStep = 6
+
 -- c rounds on: the lowest 2c bits leave, and the next 2c by the rule of k(i) enter at the top
 unfoldable pub ahead : (c w : ℕ) → ℕ
 ahead c w = kRule xor (λ j. w / 2 ^ j) keyLength % 2 ^ (2 * c) * 2 ^ (keyLength - 2 * c) + w / 2 ^ (2 * c)
@@ -28,20 +32,20 @@ abbrev pub times : {A : Type 0} → ℕ → (A → A) → A → A
 times zero f x = x
 times (suc n) f x = f (times n f x)
 
--- THE CLAIM of a key and a position p
-pub record RunningWindow (key p : ℕ) : Type 0 where
-  -- the window is k(2p) to k(2p + 79) and no more
-  pub its-bits : (i : ℕ) → i < keyLength → bit (windowAt key p) i ≡ k key (2 * p + i)
-  pub no-more : windowAt key p < 2 ^ keyLength
+-- THE CLAIM, of every key and every position p
+pub record RunningWindow : Type 0 where
+  -- the window at p is k(2p) to k(2p + 79) and no more
+  pub its-bits : (key p i : ℕ) → i < keyLength → bit (windowAt key p) i ≡ k key (2 * p + i)
+  pub no-more : (key p : ℕ) → windowAt key p < 2 ^ keyLength
   -- at position 0 it is the key
-  pub first : key < 2 ^ keyLength → windowAt key 0 ≡ key
+  pub first : (key : ℕ) → key < 2 ^ keyLength → windowAt key 0 ≡ key
   -- going forward and back
-  pub forth : ahead 1 (windowAt key p) ≡ windowAt key (p + 1)
-  pub back : behind 1 (windowAt key (p + 1)) ≡ windowAt key p
-  -- up to six rounds at once are that many single ones
-  pub at-once : (c : ℕ) → c ≤ 6 → ahead c (windowAt key p) ≡ times c (ahead 1) (windowAt key p)
-  -- KATAN's round p takes ka and kb from it
-  pub taken : (v : ℕ) → v ≤ lastKatan → p < rounds
+  pub forth : (key p : ℕ) → ahead 1 (windowAt key p) ≡ windowAt key (p + 1)
+  pub back : (key p : ℕ) → behind 1 (windowAt key (p + 1)) ≡ windowAt key p
+  -- of any 80 bits, up to six rounds on at once are that many single ones
+  pub at-once : (c w : ℕ) → c ≤ longestStep → w < 2 ^ keyLength → ahead c w ≡ times c (ahead 1) w
+  -- KATAN's round p takes ka and kb from the window at p
+  pub taken : (v key p : ℕ) → v ≤ lastKatan → p < rounds
       → inputOf v key p ≡ record { ir = irOf (counter p); ka = bit (windowAt key p) 0; kb = bit (windowAt key p) 1 }
 
 -- ---- what a variant's rounds find their key bits in: a KATAN's the window of their position, a KTANTAN's the key

@@ -4,7 +4,7 @@ ghost use mathlib.Core.Path.{_≡_};
 ghost use Prim.Native.Nat.{_≤_};
 ghost use Rattle.katan.specs.Bit.{bit};
 ghost use Rattle.katan.specs.Key.{keyNumber};
-ghost use Rattle.katan_keys.specs.Window.{windowNumber, ahead as aheadOf, behind as behindOf, times, sourceAt, nextSource, previousSource};
+ghost use Rattle.katan_keys.specs.Window.{windowNumber, longestStep, ahead as aheadOf, behind as behindOf, times, sourceAt, nextSource, previousSource};
 use katan::Key;
 use katan::RoundPosition;
 
@@ -14,12 +14,12 @@ pub struct Window {
     pub high: u64,
 }
 
-// So many rounds are stepped at once on the way to a position: the nearest bit of the rule is 13 back, and a round takes 2.
+// The rounds of a step on the way to a position.
 const STRIDE: usize = 6;
 
 // The window c rounds on: its lowest bits leave, and those that follow by the rule enter at the top.
 fn ahead(c: usize, w: Window) -> Window
-    requires { ⌜ (1 ≤ c) × (c ≤ 6) ⌝ }
+    requires { ⌜ (1 ≤ c) × (c ≤ longestStep) ⌝ }
     ensures { λ r. ⌜ windowNumber r ≡ aheadOf c (windowNumber w) ⌝ }
 {
     let s = 2 * c;
@@ -43,7 +43,7 @@ fn behind(w: Window) -> Window
 
 // n steps of c rounds each.
 fn steps(n: usize, c: usize, w: Window) -> Window
-    requires { ⌜ (1 ≤ c) × (c ≤ 6) ⌝ }
+    requires { ⌜ (1 ≤ c) × (c ≤ longestStep) ⌝ }
     ensures { λ r. ⌜ windowNumber r ≡ times n (aheadOf c) (windowNumber w) ⌝ }
 {
     let mut t = w;

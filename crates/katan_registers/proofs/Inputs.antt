@@ -107,7 +107,7 @@ module _ (v key : ℕ) (counters numbers : List ℕ) (e : counters ≡ tabulate 
 
       by-kind : (b : Bool) → isKatan v ≡ b → tableInput v (tabulate counter 0 rounds) (tabulate keyBitNumber 0 (2 * rounds)) r (sourceAt v key r) ≡ inputOf v key r
       by-kind true s =
-          rw s (ap (λ (x : ℕ). input x (bit (windowAt key r) 0) (bit (windowAt key r) 1)) t ∙ sym (running-window key r .taken v (leb-true v lastKatan s) q))
+          rw s (ap (λ (x : ℕ). input x (bit (windowAt key r) 0) (bit (windowAt key r) 1)) t ∙ sym (running-window .taken v key r (leb-true v lastKatan s) q))
       by-kind false s =
           rw s (ap₂ (λ (x y : ℕ). input x (bit key y) (bit key (getD (tabulate keyBitNumber 0 (2 * rounds)) (2 * r + 1) 0))) t (numbered (2 * r) (omega arith))
           ∙ ap (λ (y : ℕ). input (irOf (counter r)) (bit key (keyBitNumber (2 * r))) (bit key y)) (numbered (2 * r + 1) (omega arith))
@@ -119,14 +119,14 @@ module _ (v key p w : ℕ) where
   source-next e = ap (nextSource v) e ∙ by-kind (isKatan v)
     where
       by-kind : (b : Bool) → pick b (ahead 1 (pick b (windowAt key p) key)) (pick b (windowAt key p) key) ≡ pick b (windowAt key (p + 1)) key
-      by-kind true = running-window key p .forth
+      by-kind true = running-window .forth key p
       by-kind false = refl
 
   pub source-previous : w ≡ sourceAt v key (p + 1) → previousSource v w ≡ sourceAt v key p
   source-previous e = ap (previousSource v) e ∙ by-kind (isKatan v)
     where
       by-kind : (b : Bool) → pick b (behind 1 (pick b (windowAt key (p + 1)) key)) (pick b (windowAt key (p + 1)) key) ≡ pick b (windowAt key p) key
-      by-kind true = running-window key p .back
+      by-kind true = running-window .back key p
       by-kind false = refl
 
 -- ---- the row of a variant

@@ -2,7 +2,7 @@ use mathlib.Core.Path.{_≡_, refl, ap, _∙_}
 use Prim.Native.Nat.{ℕ, _-_, _≤_}
 use native.Mathlib.Numerals.{add-one}
 use native.Mathlib.Omega.{arith}
-use Rattle.katan_keys.specs.Window.{windowNumber, ahead, times}
+use Rattle.katan_keys.specs.Window.{longestStep, windowNumber, ahead, times}
 use Rattle.katan_keys.proofs.steps.Statement.{statement}
 use Rattle.katan_keys.proofs.steps.Tie as tie
 use Rattle.katan_keys.proofs.steps.Reads as reads
@@ -10,7 +10,7 @@ use Rattle.katan_keys.proofs.steps.Lts as lts
 use Rattle.katan_keys.proofs.ahead.Reads as ahead-reads
 
 abbrev Inv-loop : tie.InvT-loop
-Inv-loop n c t₀ counter₀ t counter = (windowNumber t ≡ times counter (ahead c) (windowNumber t₀)) × (1 ≤ c) × (c ≤ 6) × (counter ≤ n)
+Inv-loop n c t₀ counter₀ t counter = (windowNumber t ≡ times counter (ahead c) (windowNumber t₀)) × (1 ≤ c) × (c ≤ longestStep) × (counter ≤ n)
 
 abbrev μ-loop : tie.MeasureT-loop
 μ-loop n c t₀ counter₀ t counter = n - counter
