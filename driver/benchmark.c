@@ -231,8 +231,9 @@ static void bench_table(void) {
     }
 }
 
-// ---- a sheet of traces: single steps of all lanes, 254 forward and 254 back. Plain C writes out a lane's key bits once
-// and stores the registers after each round, lane by lane.
+// ---- a sheet of traces: single steps of all lanes, 254 forward and 254 back, without the reads between them. Each
+// step's time is its best in 20 sheets; mean and dearest are over these. Plain C writes out a lane's key bits once and
+// stores the registers after each round, lane by lane.
 
 enum { STEPS = 2 * KATAN_ROUNDS, SHEETS = 20 };
 

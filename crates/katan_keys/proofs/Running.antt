@@ -3,7 +3,7 @@
 use mathlib.Core.Path.{_≡_, refl, sym, ap, ap₂, subst, _∙_}
 use mathlib.Core.Bool.{Bool, true, false}
 use Prim.Native.Nat.{ℕ, zero, suc, _+_, _-_, _*_, _/_, _%_, _^_, _<_, _≤_}
-use native.Mathlib.Nat.{mod-lt, mul-one, suc-mul, add-sub-of-le}
+use native.Mathlib.Nat.{mod-lt, zero-add, mul-one, suc-mul, add-sub-of-le}
 use native.Mathlib.Omega.{arith}
 use borrow.Author.Tests.{leb-true, leb-false}
 use lib.Dec.{leb}
@@ -141,6 +141,13 @@ singly c w few h =
     ∙ sym (steps-window w 0 1 c (omega arith))
     ∙ ap (times c (ahead 1)) e
 
+-- the way to a position: n steps of c rounds and m single ones, from the key
+pub way : (n m : ℕ) {c : ℕ} (key w₁ w₂ w₃ : ℕ) → key < 2 ^ keyLength → w₁ ≡ key → w₂ ≡ times n (ahead c) w₁ → w₃ ≡ times m (ahead 1) w₂ → c ≤ longestStep → (p : ℕ) → n * c + m ≡ p → w₃ ≡ windowAt key p
+way n m {c} key w₁ w₂ w₃ h e f g few p whole =
+    let start : w₁ ≡ windowAt key 0 = e ∙ sym (first-window key h) in
+    let far : w₂ ≡ windowAt key (n * c) = f ∙ ap (times n (ahead c)) start ∙ steps-window key 0 c n few ∙ ap (windowAt key) (zero-add (n * c)) in
+    g ∙ ap (times m (ahead 1)) far ∙ steps-window key (n * c) 1 m (omega arith) ∙ ap (λ (x : ℕ). windowAt key (n * c + x)) (mul-one m) ∙ ap (windowAt key) whole
+
 -- THEOREM: the claim
 pub running-window : RunningWindow
 running-window =
@@ -148,8 +155,8 @@ running-window =
       its-bits = window-bit;
       no-more = window-lt;
       first = first-window;
-      forth = λ key p. ahead-window key p 1 (omega arith);
-      back = λ key p. behind-window key p 1 (omega arith);
+      forth = ahead-window;
+      back = behind-window;
       at-once = singly;
       taken = first-two;
     }

@@ -39,9 +39,9 @@ pub record RunningWindow : Type 0 where
   pub no-more : (key p : ℕ) → windowAt key p < 2 ^ keyLength
   -- at position 0 it is the key
   pub first : (key : ℕ) → key < 2 ^ keyLength → windowAt key 0 ≡ key
-  -- going forward and back
-  pub forth : (key p : ℕ) → ahead 1 (windowAt key p) ≡ windowAt key (p + 1)
-  pub back : (key p : ℕ) → behind 1 (windowAt key (p + 1)) ≡ windowAt key p
+  -- going forward and back, by a round or by up to six
+  pub forth : (key p c : ℕ) → c ≤ longestStep → ahead c (windowAt key p) ≡ windowAt key (p + c)
+  pub back : (key p c : ℕ) → c ≤ longestStep → behind c (windowAt key (p + c)) ≡ windowAt key p
   -- of any 80 bits, up to six rounds on at once are that many single ones
   pub at-once : (c w : ℕ) → c ≤ longestStep → w < 2 ^ keyLength → ahead c w ≡ times c (ahead 1) w
   -- KATAN's round p takes ka and kb from the window at p
@@ -60,6 +60,6 @@ nextSource v w = pick (isKatan v) (ahead 1 w) w
 abbrev pub previousSource : (v w : ℕ) → ℕ
 previousSource v w = pick (isKatan v) (behind 1 w) w
 
--- the number in a window's words
+-- the number in two words
 abbrev pub windowNumber : Window → ℕ
 windowNumber w = w .high * 2 ^ 64 + w .low

@@ -8,7 +8,8 @@ ghost use Rattle.katan_keys.specs.Window.{windowNumber, longestStep, ahe
 use katan::Key;
 use katan::RoundPosition;
 
-// Bits 0 to 63 of a window, and 64 to 79. Both are words: an uneven struct is copied piece by piece in each round.
+// What a round finds its key bits in, a KATAN's window or a KTANTAN's key: bits 0 to 63, and 64 to 79. Both are words: the
+// empty bytes of an uneven struct would be copied in each round.
 pub struct Window {
     pub low: u64,
     pub high: u64,
@@ -95,7 +96,7 @@ pub fn previous_source(variant: u8, w: Window) -> Window
     }
 }
 
-// Bit i of a window or key, 0 past its end.
+// Bit i of the number in the two words, 0 past their end.
 pub fn bit_at(w: Window, i: usize) -> u64
     ensures { λ r. ⌜ r ≡ bit (windowNumber w) i ⌝ }
 {

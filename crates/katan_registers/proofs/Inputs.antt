@@ -4,13 +4,13 @@ use mathlib.Core.Path.{_≡_, refl, sym, ap, ap₂, subst, _∙_}
 use mathlib.Core.Bool.{Bool, true, false}
 use mathlib.Core.List.{List}
 use mathlib.Core.Logic.{_⊎_, inl, inr, ⊎-elim}
-use Prim.Native.Nat.{ℕ, zero, suc, _+_, _-_, _*_, _^_, _<_, _≤_}
+use Prim.Native.Nat.{ℕ, zero, suc, _+_, _*_, _^_, _<_, _≤_}
 use native.Mathlib.Omega.{arith}
 use borrow.Author.Tests.{leb-true, leb-false}
 use lib.ListN.{getD}
 use Rattle.katan.specs.Bit.{bit, pick, tabulate}
 use Rattle.katan.specs.Counter.{counter, irOf, rounds}
-use Rattle.katan.specs.Variant.{row32, row48, row64, rowOf, widthOf, isKatan, lastKatan}
+use Rattle.katan.specs.Variant.{row32, row48, row64, rowOf, isKatan, lastKatan}
 use Rattle.katan.specs.Key.{keyBitNumber}
 use Rattle.katan.specs.Clock.{clock, unclock, round, unround, run, unrun, registers, inputOf}
 use Rattle.katan.specs.inner.Within.{Sound, Bits, RegistersFit}
@@ -19,15 +19,14 @@ use Rattle.katan.specs.declared.Registers.{Registers}
 use Rattle.katan.specs.declared.RoundInput.{RoundInput}
 use Rattle.katan.proofs.Bits.{bit-lt}
 use Rattle.katan.proofs.Tables.{entry}
-use Rattle.katan.proofs.Keys.{ktantan-input}
-use Rattle.katan.proofs.Keys.{input-bits as inputs-bits}
+use Rattle.katan.proofs.Keys.{ktantan-input, input-bits as inputs-bits}
 use Rattle.katan.proofs.Undo.{sound, clock-fits, unclock-fits, clocks-fit, unclocks-fit, run-fits, unrun-fits}
 use Rattle.katan.proofs.Positions.{registers-fit}
 use Rattle.katan_registers.specs.declared.rounds.Fed.{Fed}
 use Rattle.katan_registers.specs.declared.rounds.Running.{Running}
 use Rattle.katan_keys.specs.Window.{windowNumber, windowAt, ahead, behind, sourceAt, nextSource, previousSource}
 use Rattle.katan_keys.proofs.Running.{running-window}
-use Rattle.katan_registers.specs.inner.Tables.{tableInput, afterRound}
+use Rattle.katan_registers.specs.inner.Tables.{Tables, tableInput, afterRound}
 
 module _ (v : ℕ) (counters numbers : List ℕ) where
   table-bits : (r w : ℕ) → Bits (tableInput v counters numbers r w)
@@ -90,13 +89,13 @@ abbrev pub input : ℕ → ℕ → ℕ → RoundInput
 input x y z = record { ir = x; ka = y; kb = z }
 
 pub same-input : {x y z x′ y′ z′ : ℕ} → x ≡ x′ → y ≡ y′ → z ≡ z′ → input x y z ≡ input x′ y′ z′
-same-input {x} e f g = rw (e, f, g)
+same-input e f g = rw (e, f, g)
 
-module _ (v key : ℕ) (counters numbers : List ℕ) (e : counters ≡ tabulate counter 0 rounds) (f : numbers ≡ tabulate keyBitNumber 0 (2 * rounds)) where
+module _ (v key : ℕ) (counters numbers : List ℕ) (ts : Tables counters numbers) where
   pub table-input : (r w : ℕ) → r < rounds → w ≡ sourceAt v key r → tableInput v counters numbers r w ≡ inputOf v key r
   table-input r w q h =
       ap (λ (x : ℕ). tableInput v counters numbers r x) h
-      ∙ ap₂ (λ (x y : List ℕ). tableInput v x y r (sourceAt v key r)) e f
+      ∙ ap₂ (λ (x y : List ℕ). tableInput v x y r (sourceAt v key r)) (ts .0) (ts .1)
       ∙ by-kind (isKatan v) refl
     where
       t : irOf (getD (tabulate counter 0 rounds) r 0) ≡ irOf (counter r)
@@ -119,14 +118,14 @@ module _ (v key p w : ℕ) where
   source-next e = ap (nextSource v) e ∙ by-kind (isKatan v)
     where
       by-kind : (b : Bool) → pick b (ahead 1 (pick b (windowAt key p) key)) (pick b (windowAt key p) key) ≡ pick b (windowAt key (p + 1)) key
-      by-kind true = running-window .forth key p
+      by-kind true = running-window .forth key p 1 (omega arith)
       by-kind false = refl
 
   pub source-previous : w ≡ sourceAt v key (p + 1) → previousSource v w ≡ sourceAt v key p
   source-previous e = ap (previousSource v) e ∙ by-kind (isKatan v)
     where
       by-kind : (b : Bool) → pick b (behind 1 (pick b (windowAt key (p + 1)) key)) (pick b (windowAt key (p + 1)) key) ≡ pick b (windowAt key p) key
-      by-kind true = running-window .back key p
+      by-kind true = running-window .back key p 1 (omega arith)
       by-kind false = refl
 
 -- ---- the row of a variant
@@ -149,7 +148,3 @@ is-row64 (suc (suc (suc (suc zero)))) p q f g = absurd (f (inr refl))
 is-row64 (suc (suc (suc (suc (suc zero))))) p q f g = absurd (g (inr refl))
 is-row64 (suc (suc (suc (suc (suc (suc zero)))))) p q f g = refl
 is-row64 (suc (suc (suc (suc (suc (suc (suc v))))))) p q f g = absurd (omega arith)
-
--- what the registers ask of a variant's row
-pub row-asks : (v : ℕ) (row : Row) → row ≡ rowOf v → (x : ℕ) → x < 2 ^ widthOf v → Sound row × (x < 2 ^ (row .n))
-row-asks v row e x h = (rw e (sound v), rw e h)

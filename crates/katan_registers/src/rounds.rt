@@ -1,15 +1,14 @@
 // Rounds and runs of rounds, forward and back, over any row of the variants' table.
 ghost use mathlib.Core.Path.{_≡_};
-ghost use Prim.Native.Nat.{_<_, _≤_, _^_, _-_, _*_};
-ghost use Rattle.katan.specs.Bit.{tabulate};
-ghost use Rattle.katan.specs.Counter.{counter, rounds};
-ghost use Rattle.katan.specs.Key.{keyNumber, keyBitNumber};
+ghost use Prim.Native.Nat.{_<_, _≤_, _^_, _-_};
+ghost use Rattle.katan.specs.Counter.{rounds};
+ghost use Rattle.katan.specs.Key.{keyNumber};
 ghost use Rattle.katan.specs.Clock.{round, unround, run, unrun, block, registers, inputOf};
 ghost use Rattle.katan.specs.Variant.{row32, row48, row64, rowOf, widthOf};
 ghost use Rattle.katan.specs.Machine.{registersAt};
 ghost use Rattle.katan.specs.inner.Within.{Sound, Bits, RegistersFit};
 ghost use Rattle.katan_keys.specs.Window.{windowNumber, nextSource, previousSource};
-ghost use Rattle.katan_registers.specs.inner.Tables.{tableInput, afterRound};
+ghost use Rattle.katan_registers.specs.inner.Tables.{Tables, inputFrom, tableInput, afterRound};
 use crate::clock::clock_of;
 use crate::clock::unclock_of;
 use katan::Key;
@@ -19,13 +18,14 @@ use katan::RoundPosition;
 use katan::Row;
 use katan_keys::Window;
 
-// What a round takes, and what the next round on the way finds its key bits in.
+// What a round takes, and the source of the position that it leads to: what the rounds find their key bits in, a KATAN's
+// window or a KTANTAN's key.
 struct Fed {
     input: RoundInput,
     source: Window,
 }
 
-// The registers on their way, and what the next round finds its key bits in.
+// The registers at a position, and its source.
 struct Running {
     registers: Registers,
     source: Window,
@@ -37,7 +37,18 @@ fn wide(x: u8) -> u64
     x as u64
 }
 
-// IR, ka and kb of round r. KATAN's are the two lowest bits of the window; KTANTAN's table names them.
+// IR from the round's T, and ka and kb, which have these places in the source.
+fn input_from(counter: u8, source: Window, ka: usize, kb: usize) -> RoundInput
+    ensures { λ u. ⌜ u ≡ inputFrom counter (windowNumber source) ka kb ⌝ }
+{
+    RoundInput {
+        ir: (wide(counter) >> 7) % 2,
+        ka: katan_keys::bit_at(source, ka),
+        kb: katan_keys::bit_at(source, kb),
+    }
+}
+
+// The input of round r. KATAN's key bits are the two lowest of the window; KTANTAN's table names them.
 fn input_of(
     variant: u8,
     counters: &[u8; katan::ROUND_COUNT],
@@ -48,20 +59,12 @@ fn input_of(
     requires { ⌜ r < rounds ⌝ }
     ensures { λ u. ⌜ u ≡ tableInput variant (now (counters .entry)) (now (numbers .entry)) r (windowNumber source) ⌝ }
 {
-    let ir = (wide(counters[r]) >> 7) % 2;
     if katan_variants::is_katan(variant) {
-        return RoundInput {
-            ir,
-            ka: katan_keys::bit_at(source, 0),
-            kb: katan_keys::bit_at(source, 1),
-        };
+        return input_from(counters[r], source, 0, 1);
     }
-    let i = 2 * r;
-    RoundInput {
-        ir,
-        ka: katan_keys::bit_at(source, katan_numbers::index_of(numbers[i])),
-        kb: katan_keys::bit_at(source, katan_numbers::index_of(numbers[i + 1])),
-    }
+    let ka = katan_numbers::index_of(numbers[2 * r]);
+    let kb = katan_numbers::index_of(numbers[2 * r + 1]);
+    input_from(counters[r], source, ka, kb)
 }
 
 // Round r is fed from the source of its position, and the next round from the next one.
@@ -227,7 +230,7 @@ fn run_of(
     to: RoundPosition,
     s: Registers,
 ) -> Registers
-    requires { ⌜ (1 ≤ variant) × (variant ≤ 6) × (now counters ≡ tabulate counter 0 rounds) × (now numbers ≡ tabulate keyBitNumber 0 (2 * rounds)) × RegistersFit (rowOf variant) s × (from .0 ≤ to .0) × (to .0 ≤ rounds) ⌝ }
+    requires { ⌜ (1 ≤ variant) × (variant ≤ 6) × Tables (now counters) (now numbers) × RegistersFit (rowOf variant) s × (from .0 ≤ to .0) × (to .0 ≤ rounds) ⌝ }
     ensures { λ r. ⌜ r ≡ run (rowOf variant) (inputOf variant (keyNumber key)) (from .0) (to .0 - from .0) s ⌝ }
 {
     let first = from.0 as usize;
@@ -252,7 +255,7 @@ fn unrun_of(
     to: RoundPosition,
     s: Registers,
 ) -> Registers
-    requires { ⌜ (1 ≤ variant) × (variant ≤ 6) × (now counters ≡ tabulate counter 0 rounds) × (now numbers ≡ tabulate keyBitNumber 0 (2 * rounds)) × RegistersFit (rowOf variant) s × (to .0 ≤ from .0) × (from .0 ≤ rounds) ⌝ }
+    requires { ⌜ (1 ≤ variant) × (variant ≤ 6) × Tables (now counters) (now numbers) × RegistersFit (rowOf variant) s × (to .0 ≤ from .0) × (from .0 ≤ rounds) ⌝ }
     ensures { λ r. ⌜ r ≡ unrun (rowOf variant) (inputOf variant (keyNumber key)) (to .0) (from .0 - to .0) s ⌝ }
 {
     let end = to.0 as usize;
@@ -296,7 +299,7 @@ pub fn by_tables(
     to: RoundPosition,
     x: u64,
 ) -> u64
-    requires { ⌜ (1 ≤ variant) × (variant ≤ 6) × (row ≡ rowOf variant) × (now counters ≡ tabulate counter 0 rounds) × (now numbers ≡ tabulate keyBitNumber 0 (2 * rounds)) × (from .0 ≤ rounds) × (to .0 ≤ rounds) × (x < 2 ^ widthOf variant) ⌝ }
+    requires { ⌜ (1 ≤ variant) × (variant ≤ 6) × (row ≡ rowOf variant) × Tables (now counters) (now numbers) × (from .0 ≤ rounds) × (to .0 ≤ rounds) × (x < 2 ^ widthOf variant) ⌝ }
     ensures { λ r. ⌜ r ≡ registersAt variant (keyNumber key) (from .0) x (to .0) ⌝ }
 {
     let s = registers_of(row, x);

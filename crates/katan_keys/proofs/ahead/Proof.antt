@@ -9,52 +9,41 @@ use Rattle.katan_keys.proofs.ahead.Tie as tie
 use Rattle.katan_keys.proofs.ahead.Reads as reads
 use Rattle.katan_keys.proofs.ahead.Lts as lts
 
--- src/lib.rt:25:13
 mul-s : tie.Need-mul-s
 mul-s c = search needs
 
--- src/lib.rt:26:79
 shl-entering : tie.Need-shl-entering
 shl-entering c = search needs
 
--- src/lib.rt:26:20
 rem-entering : tie.Need-rem-entering
 rem-entering c =
     let a = c .before .before .before .before .args in
     rw (one-shifted (2 * a .c) (omega arith)) (pow-pos (2 * a .c))
 
--- src/lib.rt:28:26
 sub-t13 : tie.Need-sub-t13
 sub-t13 c = search needs
 
--- src/lib.rt:28:15
 shl-t12 : tie.Need-shl-t12
 shl-t12 c = search needs
 
--- src/lib.rt:28:38
 shr-t10 : tie.Need-shr-t10
 shr-t10 c = search needs
 
--- src/lib.rt:29:16
 shr-t7 : tie.Need-shr-t7
 shr-t7 c = search needs
 
--- src/lib.rt:29:45
 sub-t14 : tie.Need-sub-t14
 sub-t14 c = search needs
 
--- src/lib.rt:29:32
 shl-t15 : tie.Need-shl-t15
 shl-t15 c = search needs
 
--- src/lib.rt:29:15
 add-t16 : tie.Need-add-t16
 add-t16 c =
     let d = c .before .before .before .before .before .before .before in
     let w = d .args .w in
     record { fits = high-fits (w .high) (d .args .c) _ (d .pre .1) (d .pre .0) (search needs) }
 
--- src/lib.rt:21:1
 returns : tie.Need-returns
 returns c =
     let d = c .before .before .before .before .before .before .before in

@@ -5,7 +5,6 @@ use Rattle.katan_keys.proofs.behind.Tie as tie
 use Rattle.katan_keys.proofs.behind.Reads as reads
 use Rattle.katan_keys.proofs.behind.Lts as lts
 
--- src/lib.rt:34:1
 returns : tie.Need-returns
 returns c =
     let w = c .before .before .before .before .before .before .before .args .w in

@@ -11,21 +11,17 @@ use Rattle.katan_keys.proofs.bit_at.Reads as reads
 use Rattle.katan_keys.proofs.bit_at.Lts as lts
 use Rattle.katan_numbers.proofs.bit_of.Reads as bit-of-reads
 
--- src/lib.rt:103:9
 bit-of-requires : tie.Need-bit-of-requires
 bit-of-requires c κs = search needs
 
--- src/lib.rt:105:9
 bit-of-requires-2 : tie.Need-bit-of-requires-2
 bit-of-requires-2 c κs = search needs
 
--- src/lib.rt:99:1
 returns : tie.Need-returns
 returns c =
     let a = c .before .before .args in
     c .bit-of .ensures ∙ sym (bit-below 64 (a .w .high) (search needs) (a .i) (c .before .if1 .taken))
 
--- src/lib.rt:99:1
 returns-2 : tie.Need-returns-2
 returns-2 c =
     let a = c .before .before .args in

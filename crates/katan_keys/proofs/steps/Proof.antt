@@ -15,29 +15,23 @@ Inv-loop n c t₀ counter₀ t counter = (windowNumber t ≡ times counter (ahea
 abbrev μ-loop : tie.MeasureT-loop
 μ-loop n c t₀ counter₀ t counter = n - counter
 
--- src/lib.rt:50:5
 loop-holds : tie.Need-loop-holds Inv-loop μ-loop
 loop-holds c = (refl, c .pre .0, c .pre .1, omega arith)
 
--- src/lib.rt:51:9
 ahead-requires : tie.Need-ahead-requires Inv-loop μ-loop
 ahead-requires c κs = (omega arith, omega arith)
 
--- src/lib.rt:50:9
 add-counter : tie.Need-add-counter Inv-loop μ-loop
 add-counter c = omega arith
 
--- src/lib.rt:50:5
 loop-less : tie.Need-loop-less Inv-loop μ-loop
 loop-less c = omega arith
 
--- src/lib.rt:50:5
 loop-again : tie.Need-loop-again Inv-loop μ-loop
 loop-again c =
     let l = c .before .before .loop in
     (rw add-one (c .ahead .ensures ∙ ap (ahead (c .before .before .before .args .c)) (l .inv .0)), l .inv .1, l .inv .2, omega arith)
 
--- src/lib.rt:45:1
 returns : tie.Need-returns Inv-loop μ-loop
 returns c =
     let l = c .before .loop in

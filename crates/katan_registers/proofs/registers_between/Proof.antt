@@ -17,7 +17,7 @@ by-tables-requires : tie.Need-by-tables-requires
 by-tables-requires c κs =
     let m = c .before .before in
     let d = m .before .before in
-    (d .pre .0, d .pre .1, d .pre .2, m .before .counters .ensures, m .key-bit-numbers .ensures, d .pre .3, d .pre .4, d .pre .5)
+    (d .pre .0, d .pre .1, d .pre .2, (m .before .counters .ensures, m .key-bit-numbers .ensures), d .pre .3, d .pre .4, d .pre .5)
 
 returns : tie.Need-returns
 returns c = c .by-tables .ensures

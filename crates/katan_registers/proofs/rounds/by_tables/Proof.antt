@@ -25,7 +25,7 @@ run-of-requires c κs =
     let d = c .before .before .before .before in
     let a = d .args in
     let s = c .before .before .before .registers-of .ensures ∙ ap (λ (r : Row). registers r (a .x)) (d .pre .2) in
-    (d .pre .0, d .pre .1, d .pre .3, d .pre .4, loaded-fits (rowOf (a .variant)) (sound (a .variant)) (a .x) (d .pre .7) _ s, omega arith, omega arith)
+    (d .pre .0, d .pre .1, d .pre .3, loaded-fits (rowOf (a .variant)) (sound (a .variant)) (a .x) (d .pre .6) _ s, omega arith, omega arith)
 
 block-of-requires : tie.Need-block-of-requires
 block-of-requires c κs =
@@ -36,7 +36,7 @@ block-of-requires c κs =
     let v = a .variant in (
       rw (d .pre .2) (sound v),
       rw (d .pre .2)
-          (ran-fits (rowOf v) (sound v) (keyNumber (a .key)) (a .from .0) (a .to .0 - a .from .0) (l .result) (loaded-fits (rowOf v) (sound v) (a .x) (d .pre .7) _ s) _ v (c .run-of .ensures)),
+          (ran-fits (rowOf v) (sound v) (keyNumber (a .key)) (a .from .0) (a .to .0 - a .from .0) (l .result) (loaded-fits (rowOf v) (sound v) (a .x) (d .pre .6) _ s) _ v (c .run-of .ensures)),
     )
 
 unrun-of-requires : tie.Need-unrun-of-requires
@@ -44,7 +44,7 @@ unrun-of-requires c κs =
     let d = c .before .before .before .before in
     let a = d .args in
     let s = c .before .before .before .registers-of .ensures ∙ ap (λ (r : Row). registers r (a .x)) (d .pre .2) in
-    (d .pre .0, d .pre .1, d .pre .3, d .pre .4, loaded-fits (rowOf (a .variant)) (sound (a .variant)) (a .x) (d .pre .7) _ s, omega arith, omega arith)
+    (d .pre .0, d .pre .1, d .pre .3, loaded-fits (rowOf (a .variant)) (sound (a .variant)) (a .x) (d .pre .6) _ s, omega arith, omega arith)
 
 block-of-requires-2 : tie.Need-block-of-requires-2
 block-of-requires-2 c κs =
@@ -55,7 +55,7 @@ block-of-requires-2 c κs =
     let v = a .variant in (
       rw (d .pre .2) (sound v),
       rw (d .pre .2)
-          (unran-fits (rowOf v) (sound v) (keyNumber (a .key)) (a .to .0) (a .from .0 - a .to .0) (l .result) (loaded-fits (rowOf v) (sound v) (a .x) (d .pre .7) _ s) _ v (c .unrun-of .ensures)),
+          (unran-fits (rowOf v) (sound v) (keyNumber (a .key)) (a .to .0) (a .from .0 - a .to .0) (l .result) (loaded-fits (rowOf v) (sound v) (a .x) (d .pre .6) _ s) _ v (c .unrun-of .ensures)),
     )
 
 returns : tie.Need-returns

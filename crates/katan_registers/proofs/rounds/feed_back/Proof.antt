@@ -11,15 +11,12 @@ use Rattle.katan_registers.proofs.rounds.feed_back.Lts as lts
 use Rattle.katan_keys.proofs.previous_source.Reads as previous-source-reads
 use Rattle.katan_registers.proofs.rounds.input_of.Reads as input-of-reads
 
--- src/rounds.rt:95:9
 previous-source-requires : tie.Need-previous-source-requires
 previous-source-requires c κs = search needs
 
--- src/rounds.rt:97:16
 input-of-requires : tie.Need-input-of-requires
 input-of-requires c κs = search needs
 
--- src/rounds.rt:85:1
 returns : tie.Need-returns
 returns c =
     let a = c .before .before .args in

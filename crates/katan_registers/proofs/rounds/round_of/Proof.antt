@@ -11,11 +11,9 @@ use Rattle.katan_registers.proofs.rounds.round_32.Reads as round-32-rea
 use Rattle.katan_registers.proofs.rounds.round_48.Reads as round-48-reads
 use Rattle.katan_registers.proofs.rounds.round_64.Reads as round-64-reads
 
--- src/rounds.rt:155:27
 feed-requires : tie.Need-feed-requires
 feed-requires c κs = search needs
 
--- src/rounds.rt:155:18
 round-32-requires : tie.Need-round-32-requires
 round-32-requires c κs =
     let b = c .before in
@@ -24,11 +22,9 @@ round-32-requires c κs =
     let v = a .variant in
     (input-bits v (a .counters .now) (a .numbers .now) (a .r) _ _ (c .feed .ensures .0), rw (is-row32 v (b .match .keys1)) (d .pre .3))
 
--- src/rounds.rt:156:27
 feed-requires-2 : tie.Need-feed-requires-2
 feed-requires-2 c κs = search needs
 
--- src/rounds.rt:156:18
 round-48-requires : tie.Need-round-48-requires
 round-48-requires c κs =
     let b = c .before in
@@ -37,11 +33,9 @@ round-48-requires c κs =
     let v = a .variant in
     (input-bits v (a .counters .now) (a .numbers .now) (a .r) _ _ (c .feed2 .ensures .0), rw (is-row48 v (b .match .keys2)) (d .pre .3))
 
--- src/rounds.rt:157:23
 feed-requires-3 : tie.Need-feed-requires-3
 feed-requires-3 c κs = search needs
 
--- src/rounds.rt:157:14
 round-64-requires : tie.Need-round-64-requires
 round-64-requires c κs =
     let b = c .before in
@@ -50,7 +44,6 @@ round-64-requires c κs =
     let v = a .variant in
     (input-bits v (a .counters .now) (a .numbers .now) (a .r) _ _ (c .feed3 .ensures .0), rw (is-row64 v (d .pre .0) (d .pre .1) (b .match .rest .0 .1) (b .match .rest .1)) (d .pre .3))
 
--- src/rounds.rt:142:1
 returns : tie.Need-returns
 returns c =
     let f = c .before .feed in
@@ -59,7 +52,6 @@ returns c =
     let v = d .args .variant in
     turned round row32 v (is-row32 v (b .match .keys1)) (f .result) _ (f .ensures .0) _ (f .ensures .1) (d .args .h .registers) _ (c .round-32 .ensures)
 
--- src/rounds.rt:142:1
 returns-2 : tie.Need-returns-2
 returns-2 c =
     let f = c .before .feed2 in
@@ -68,7 +60,6 @@ returns-2 c =
     let v = d .args .variant in
     turned round row48 v (is-row48 v (b .match .keys2)) (f .result) _ (f .ensures .0) _ (f .ensures .1) (d .args .h .registers) _ (c .round-48 .ensures)
 
--- src/rounds.rt:142:1
 returns-3 : tie.Need-returns-3
 returns-3 c =
     let f = c .before .feed3 in

@@ -37,49 +37,39 @@ Inv-loop variant counters numbers first count h₀ i₀ h i =
 abbrev μ-loop : tie.MeasureT-loop
 μ-loop variant counters numbers first count h₀ i₀ h i = count - i
 
--- src/rounds.rt:222:17
 cast-first : tie.Need-cast-first Inv-loop μ-loop
 cast-first c = search needs
 
--- src/rounds.rt:223:17
 cast-count : tie.Need-cast-count Inv-loop μ-loop
 cast-count c = search needs
 
--- src/rounds.rt:223:17
 sub-count : tie.Need-sub-count Inv-loop μ-loop
 sub-count c = omega arith
 
--- src/rounds.rt:226:17
 source-at-requires : tie.Need-source-at-requires Inv-loop μ-loop
 source-at-requires c κs = search needs
 
--- src/rounds.rt:228:5
 loop-holds : tie.Need-loop-holds Inv-loop μ-loop
 loop-holds c =
     let d = c .before .before .before in
     let v = d .args .variant in
-    (λ key e. (refl, e ∙ ap (sourceAt v key) (sym (add-zero (d .args .from .0)))), d .pre .4, omega arith)
+    (λ key e. (refl, e ∙ ap (sourceAt v key) (sym (add-zero (d .args .from .0)))), d .pre .3, omega arith)
 
--- src/rounds.rt:229:50
 add-round-of : tie.Need-add-round-of Inv-loop μ-loop
 add-round-of c = omega arith
 
--- src/rounds.rt:229:9
 round-of-requires : tie.Need-round-of-requires Inv-loop μ-loop
 round-of-requires c κs =
     let l = c .before in
     let d = l .before .before .before .before in
     (d .pre .0, d .pre .1, omega arith, l .loop .inv .1)
 
--- src/rounds.rt:228:9
 add-i : tie.Need-add-i Inv-loop μ-loop
 add-i c = omega arith
 
--- src/rounds.rt:228:5
 loop-less : tie.Need-loop-less Inv-loop μ-loop
 loop-less c = omega arith
 
--- src/rounds.rt:228:5
 loop-again : tie.Need-loop-again Inv-loop μ-loop
 loop-again c =
     let l = c .before .before .loop in
@@ -91,13 +81,12 @@ loop-again c =
     let round = c .round-of .ensures in (
       λ key e.
           let before = l .inv .0 key e in
-          let input = table-input v key (a .counters .now) (a .numbers .now) (d .pre .2) (d .pre .3) r w (omega arith) (before .1) in
+          let input = table-input v key (a .counters .now) (a .numbers .now) (d .pre .2) r w (omega arith) (before .1) in
           (rw add-one (round .0 ∙ ap₂ (round-on v) input (before .0)), round .1 ∙ source-next v key r w (before .1) ∙ ap (sourceAt v key) (add-assoc (a .from .0) (l .i) 1)),
       round-fits (rowOf v) (sound v) _ (input-bits v (a .counters .now) (a .numbers .now) r w _ refl) (l .h .registers) (l .inv .1) _ (round .0),
       omega arith,
     )
 
--- src/rounds.rt:210:1
 returns : tie.Need-returns Inv-loop μ-loop
 returns c =
     let l = c .before .before .loop in

@@ -11,11 +11,9 @@ use Rattle.katan_registers.proofs.rounds.unround_32.Reads as unround-32
 use Rattle.katan_registers.proofs.rounds.unround_48.Reads as unround-48-reads
 use Rattle.katan_registers.proofs.rounds.unround_64.Reads as unround-64-reads
 
--- src/rounds.rt:213:29
 feed-back-requires : tie.Need-feed-back-requires
 feed-back-requires c κs = search needs
 
--- src/rounds.rt:213:18
 unround-32-requires : tie.Need-unround-32-requires
 unround-32-requires c κs =
     let b = c .before in
@@ -24,11 +22,9 @@ unround-32-requires c κs =
     let v = a .variant in
     (input-bits v (a .counters .now) (a .numbers .now) (a .r) _ _ (c .feed-back .ensures .0), rw (is-row32 v (b .match .keys1)) (d .pre .3))
 
--- src/rounds.rt:214:29
 feed-back-requires-2 : tie.Need-feed-back-requires-2
 feed-back-requires-2 c κs = search needs
 
--- src/rounds.rt:214:18
 unround-48-requires : tie.Need-unround-48-requires
 unround-48-requires c κs =
     let b = c .before in
@@ -37,11 +33,9 @@ unround-48-requires c κs =
     let v = a .variant in
     (input-bits v (a .counters .now) (a .numbers .now) (a .r) _ _ (c .feed-back2 .ensures .0), rw (is-row48 v (b .match .keys2)) (d .pre .3))
 
--- src/rounds.rt:215:25
 feed-back-requires-3 : tie.Need-feed-back-requires-3
 feed-back-requires-3 c κs = search needs
 
--- src/rounds.rt:215:14
 unround-64-requires : tie.Need-unround-64-requires
 unround-64-requires c κs =
     let b = c .before in
@@ -50,7 +44,6 @@ unround-64-requires c κs =
     let v = a .variant in
     (input-bits v (a .counters .now) (a .numbers .now) (a .r) _ _ (c .feed-back3 .ensures .0), rw (is-row64 v (d .pre .0) (d .pre .1) (b .match .rest .0 .1) (b .match .rest .1)) (d .pre .3))
 
--- src/rounds.rt:200:1
 returns : tie.Need-returns
 returns c =
     let f = c .before .feed-back in
@@ -59,7 +52,6 @@ returns c =
     let v = d .args .variant in
     turned unround row32 v (is-row32 v (b .match .keys1)) (f .result) _ (f .ensures .0) _ (f .ensures .1) (d .args .h .registers) _ (c .unround-32 .ensures)
 
--- src/rounds.rt:200:1
 returns-2 : tie.Need-returns-2
 returns-2 c =
     let f = c .before .feed-back2 in
@@ -68,7 +60,6 @@ returns-2 c =
     let v = d .args .variant in
     turned unround row48 v (is-row48 v (b .match .keys2)) (f .result) _ (f .ensures .0) _ (f .ensures .1) (d .args .h .registers) _ (c .unround-48 .ensures)
 
--- src/rounds.rt:200:1
 returns-3 : tie.Need-returns-3
 returns-3 c =
     let f = c .before .feed-back3 in

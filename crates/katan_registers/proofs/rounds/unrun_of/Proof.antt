@@ -34,40 +34,32 @@ Inv-loop variant counters numbers end left₀ h₀ left h =
 abbrev μ-loop : tie.MeasureT-loop
 μ-loop variant counters numbers end left₀ h₀ left h = left
 
--- src/rounds.rt:247:15
 cast-end : tie.Need-cast-end Inv-loop μ-loop
 cast-end c = search needs
 
--- src/rounds.rt:248:20
 cast-left : tie.Need-cast-left Inv-loop μ-loop
 cast-left c = search needs
 
--- src/rounds.rt:251:17
 source-at-requires : tie.Need-source-at-requires Inv-loop μ-loop
 source-at-requires c κs = search needs
 
--- src/rounds.rt:253:5
 loop-holds : tie.Need-loop-holds Inv-loop μ-loop
 loop-holds c =
     let d = c .before .before .before in
-    (λ key e. (refl, e), d .pre .4, omega arith, omega arith)
+    (λ key e. (refl, e), d .pre .3, omega arith, omega arith)
 
--- src/rounds.rt:254:9
 sub-left : tie.Need-sub-left Inv-loop μ-loop
 sub-left c = omega arith
 
--- src/rounds.rt:255:9
 unround-of-requires : tie.Need-unround-of-requires Inv-loop μ-loop
 unround-of-requires c κs =
     let l = c .before in
     let d = l .before .before .before .before in
     (d .pre .0, d .pre .1, omega arith, l .loop .inv .1)
 
--- src/rounds.rt:253:5
 loop-less : tie.Need-loop-less Inv-loop μ-loop
 loop-less c = omega arith
 
--- src/rounds.rt:253:5
 loop-again : tie.Need-loop-again Inv-loop μ-loop
 loop-again c =
     let l = c .before .before .loop in
@@ -85,7 +77,7 @@ loop-again c =
           let u = inputOf v key in
           let before = l .inv .0 key e in
           let source = source-previous v key r w (before .1 ∙ ap (sourceAt v key) after) in
-          let input = table-input v key (a .counters .now) (a .numbers .now) (d .pre .2) (d .pre .3) r _ (omega arith) source in (
+          let input = table-input v key (a .counters .now) (a .numbers .now) (d .pre .2) r _ (omega arith) source in (
             ap (unrun (rowOf v) u (a .to .0) n) (undone .0 ∙ ap (λ (x : RoundInput). unround (rowOf v) x (l .h .registers)) (input ∙ ap u here))
                 ∙ ap (λ (m : ℕ). unrun (rowOf v) u (a .to .0) m (l .h .registers)) more
                 ∙ before .0,
@@ -96,7 +88,6 @@ loop-again c =
       omega arith,
     )
 
--- src/rounds.rt:235:1
 returns : tie.Need-returns Inv-loop μ-loop
 returns c =
     let l = c .before .before .loop in
