@@ -1,7 +1,7 @@
 -- The doubled key rule.
 -- Assumes nothing.
 use mathlib.Core.Path.{_≡_, ap, ap₂, _∙_}
-use Prim.Native.Nat.{ℕ, _+_, _-_, _<_, _≤_}
+use Prim.Native.Nat.{ℕ, _+_, _-_, _≤_}
 use native.Mathlib.Omega.{arith}
 use Rattle.katan.specs.Bit.{xor}
 use Rattle.katan.proofs.Bits.{xor-crossed, xor-through}
