@@ -37,7 +37,7 @@ extern "C" {
  * The version of this header: it rises with every change of a call's parameters, its numbers or a layout. A driver
  * compares it with katan_version(), which the archive was built with.
  */
-#define KATAN_VERSION 2
+#define KATAN_VERSION 3
 
 /* The variants. The number in a name is n, the bits of a block: 32, 48 or 64. */
 #define KATAN32 1
@@ -218,11 +218,14 @@ uint8_t katan_decrypt_many(uint8_t variant, const uint8_t *keys, size_t keys_len
 uint8_t katan_keystream(uint8_t variant, const uint8_t *key, size_t key_length, uint64_t start,
                         const uint8_t *data, size_t data_length, uint8_t *out, size_t out_length);
 
-/* The cycles that a number of blocks takes: 254 for each. It has no status, and is never refused. */
+/*
+ * The cycles that a number of blocks takes: 255 for each, one for loading and its 254 rounds. It has no status, and is
+ * never refused.
+ */
 uint64_t katan_cycles(uint32_t blocks);
 
 /*
- * The bit rate at a clock rate of so many hertz: n times hertz, divided by 254 and cut to a whole number of bits a
+ * The bit rate at a clock rate of so many hertz: n times hertz, divided by 255 and cut to a whole number of bits a
  * second. `out` has 1 element. Checked: 1; 2 of `out`; 12.
  */
 uint8_t katan_bit_rate(uint8_t variant, uint64_t hertz, uint64_t *out, size_t out_length);

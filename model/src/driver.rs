@@ -130,15 +130,18 @@ pub fn keystream(variant: u8, key: &[u8], start: u64, data: &[u8], out: &mut [u8
     status(call_keystream(variant, key, start, data, out).map_err(number))
 }
 
+/// A block is loaded in one cycle, and has 254 rounds.
+const CYCLES_OF_A_BLOCK: u64 = 255;
+
 pub fn cycles(blocks: u32) -> u64 {
-    254 * blocks as u64
+    CYCLES_OF_A_BLOCK * blocks as u64
 }
 
 /// 12: the clock rate is 0 or over 2,940,000,000.
 pub fn bit_rate(variant: u8, hertz: u64, out: &mut [u64]) -> u8 {
     let width = Variant::from_number(variant).map_or(0, |variant| variant.width() as u64);
     let rate = match hertz {
-        1..=2_940_000_000 => Ok(width * hertz / 254),
+        1..=2_940_000_000 => Ok(width * hertz / CYCLES_OF_A_BLOCK),
         _ => Err(12),
     };
     into_word(variant, rate, out)

@@ -1,8 +1,23 @@
--- Document 01's example of the rate sheet.
+-- Document 02's formulas of the rate sheet, and its examples.
 -- Assumes nothing.
+use Prim.Native.Nat.{ℕ, _*_, _/_}
 use mathlib.Core.Path.{_≡_, refl}
-use Rattle.katan_rate.specs.Rate.{bitRate}
+use Rattle.katan.specs.Variant.{widthOf}
+use Rattle.katan_rate.specs.Rate.{cyclesOf, bitRate}
 
--- KATAN32 at 100,000 Hz: 12,598 bits a second
-pub katan32 : bitRate 1 100000 ≡ 12598
+pub cycles-formula : (m : ℕ) → cyclesOf m ≡ 255 * m
+cycles-formula m = refl
+
+pub rate-formula : (v f : ℕ) → bitRate v f ≡ widthOf v * f / 255
+rate-formula v f = refl
+
+-- At 100,000 Hz, in bits a second. Document 004 prints 12.5, 18.8 and 25.1 kbit/s, which no 254 cycles a block give: those are 12,598, 18,897 and
+-- 25,196.
+pub katan32 : bitRate 1 100000 ≡ 12549
 katan32 = refl
+
+pub katan48 : bitRate 2 100000 ≡ 18823
+katan48 = refl
+
+pub katan64 : bitRate 3 100000 ≡ 25098
+katan64 = refl

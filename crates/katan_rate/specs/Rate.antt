@@ -1,6 +1,6 @@
--- Rate sheet (document 01, "After these").
+-- Rate sheet (document 01, "After these"; document 02, (iv): the loading cycle).
 -- Assumes nothing.
-use Prim.Native.Nat.{ℕ, _*_, _/_}
+use Prim.Native.Nat.{ℕ, _+_, _*_, _/_}
 use mathlib.Core.Bool.{_||_}
 use mathlib.Core.List.{[], _∷_}
 use lib.Dec.{eqb, ltb}
@@ -10,11 +10,11 @@ use Rattle.katan.specs.Checks.{numberOf, Outcome, value, refused, Check, checke
 use Rattle.katan_rate.specs.declared.RateAnswer.{RateAnswer}
 use Rattle.katan_rate.specs.declared.RateAnswer.the-variants.{BitsPerSecond, Refused}
 
--- the cycles that a block takes
+-- the cycles that a block takes: one for loading, and its rounds
 abbrev pub blockCycles : ℕ
-blockCycles = rounds
+blockCycles = rounds + 1
 
--- m blocks take 254 m cycles
+-- m blocks take 255 m cycles
 abbrev pub cyclesOf : ℕ → ℕ
 cyclesOf m = blockCycles * m
 
@@ -26,7 +26,7 @@ highestRate = 2940000000
 abbrev pub clockRateCheck : ℕ → Check
 clockRateCheck f = record { number = 12; fault = eqb f 0 || ltb highestRate f }
 
--- at f hertz the bit rate is n f div 254
+-- at f hertz the bit rate is n f div 255
 abbrev pub bitRate : ℕ → ℕ → ℕ
 bitRate v f = widthOf v * f / blockCycles
 

@@ -4,8 +4,8 @@ ghost use Rattle.katan_rate.specs.Rate.{cyclesOf, rateOutcome, rateAnswe
 use katan::Refusal;
 use katan::RowAnswer;
 
-// The cycles that a block takes: one a round.
-const BLOCK_CYCLES: u64 = katan::ROUNDS as u64;
+// The cycles that a block takes: one for loading, and its rounds.
+const BLOCK_CYCLES: u64 = katan::ROUNDS as u64 + 1;
 
 // The highest clock rate, in hertz.
 const HIGHEST_RATE: u64 = 2940000000;

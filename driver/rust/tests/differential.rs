@@ -122,7 +122,33 @@ fn rate_sheet() {
             "variant {variant}, {hertz} Hz"
         );
     }
-    assert_eq!(raw::cycles(u32::MAX), model::cycles(u32::MAX));
+    // The largest of both, in numbers that are wider.
+    let cycles = 255 * u128::from(u32::MAX);
+    assert_eq!(u128::from(raw::cycles(u32::MAX)), cycles);
+    assert_eq!(u128::from(model::cycles(u32::MAX)), cycles);
+    let mut highest = [0];
+    assert_eq!(raw::bit_rate(3, 2_940_000_000, &mut highest), 0);
+    assert_eq!(u128::from(highest[0]), 64 * 2_940_000_000 / 255);
+}
+
+/// Bits a second at 100,000 Hz, the first and the last from document 02, beside the kbit/s that document
+/// 004 prints, KTANTAN's too.
+#[test]
+fn printed_rates() {
+    let rows = [
+        (1, 12_549, "12.5"),
+        (2, 18_823, "18.8"),
+        (3, 25_098, "25.1"),
+    ];
+    for (katan, bits, printed) in rows {
+        assert_eq!(format!("{:.1}", bits as f64 / 1000.0), printed);
+        for variant in [katan, katan + 3] {
+            let (mut ours, mut theirs) = ([0], [0]);
+            assert_eq!(raw::bit_rate(variant, 100_000, &mut ours), 0);
+            assert_eq!(model::bit_rate(variant, 100_000, &mut theirs), 0);
+            assert_eq!((ours, theirs), ([bits], [bits]), "variant {variant}");
+        }
+    }
 }
 
 /// Bench and link as a driver may hand them in: every lane empty or loaded at some position, with bytes
