@@ -1,4 +1,4 @@
--- Document 02's formulas of the rate sheet, and its examples.
+-- Document 02's formulas of the rate sheet, and what it reads at 100,000 Hz.
 -- Assumes nothing.
 use Prim.Native.Nat.{ℕ, _*_, _/_}
 use mathlib.Core.Path.{_≡_, refl}
@@ -11,8 +11,8 @@ cycles-formula m = refl
 pub rate-formula : (v f : ℕ) → bitRate v f ≡ widthOf v * f / 255
 rate-formula v f = refl
 
--- At 100,000 Hz, in bits a second. Document 004 prints 12.5, 18.8 and 25.1 kbit/s; by 254 cycles a block it would be 12,598, 18,897 and 25,196,
--- which are 12.6, 18.9 and 25.2.
+-- In bits a second. Document 004 prints 12.5, 18.8 and 25.1 kbit/s; by 254 cycles a block it would be 12,598, 18,897 and 25,196, which are 12.6,
+-- 18.9 and 25.2.
 pub katan32 : bitRate 1 100000 ≡ 12549
 katan32 = refl
 
