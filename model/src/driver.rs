@@ -184,6 +184,23 @@ pub fn arrive(bench: &mut [u8], link: &mut [u8], sent: &[u8], answer: &mut [u32]
     }
 }
 
+/// Gives the record to a copy of the memory: the answer is [`arrive`]'s, and `room` gets the copy of the
+/// bench, whether the record is refused or not. With a bench or a room of another length, nothing is
+/// written. The room's length is looked at after check 1, as that of link, answer and record is.
+pub fn preview(bench: &[u8], link: &[u8], sent: &[u8], answer: &mut [u32], room: &mut [u8]) -> u8 {
+    let (mut bench, mut link, mut words) = (bench.to_vec(), link.to_vec(), answer.to_vec());
+    let status = arrive(&mut bench, &mut link, sent, &mut words);
+    if bench.len() != BENCH_LENGTH || room.len() != BENCH_LENGTH {
+        return match status {
+            BAD_VARIANT => BAD_VARIANT,
+            _ => BAD_LENGTH,
+        };
+    }
+    room.copy_from_slice(&bench);
+    answer.copy_from_slice(&words);
+    status
+}
+
 /// The answer is the position, then the registers.
 pub fn read(bench: &[u8], lane: u64, answer: &mut [u64]) -> u8 {
     if bench.len() != BENCH_LENGTH {
@@ -205,5 +222,109 @@ pub fn read(bench: &[u8], lane: u64, answer: &mut [u64]) -> u8 {
             0
         }
         Reading::Refused(check) => check,
+    }
+}
+
+#[cfg(test)]
+mod tests {
+    use super::*;
+    use crate::bench::{clear, forward, load};
+
+    /// KATAN32, lane 0 loaded with the zero block under a key of ones, and lane 9 cleared. What was in
+    /// the memory before is 0x77.
+    fn memory() -> (Vec<u8>, Vec<u8>) {
+        let (mut bench, mut link) = (vec![0x77; BENCH_LENGTH], vec![0x77; LINK_LENGTH]);
+        assert_eq!(open(1, &mut bench, &mut link), 0);
+        let records = [
+            load(1, 0, 0, &[0xff; 10], 0),
+            load(2, 9, 3, &[0x5a; 10], 8),
+            clear(3, 1 << 9),
+        ];
+        for sent in records {
+            assert_eq!(arrive(&mut bench, &mut link, &sent, &mut [0; 3]), 0);
+        }
+        (bench, link)
+    }
+
+    /// Status, answer and room, of 3 words and so many bytes that held something else.
+    fn shown(bench: &[u8], link: &[u8], sent: &[u8], size: usize) -> (u8, [u32; 3], Vec<u8>) {
+        let (mut answer, mut room) = ([7; 3], vec![0x99; size]);
+        let status = preview(bench, link, sent, &mut answer, &mut room);
+        (status, answer, room)
+    }
+
+    /// Document 01's all-ones key at positions 1 to 5, each previewed from position 0.
+    #[test]
+    fn previews_of_steps() {
+        let (bench, link) = memory();
+        let registers: [u32; 5] = [0x00080001, 0x00180003, 0x00380007, 0x0078000f, 0x00f8001e];
+        for (count, registers) in (1..).zip(registers) {
+            let sent = forward(4, 1, count);
+            let mut expected = bench.clone();
+            expected[2] = count;
+            expected[13..17].copy_from_slice(&registers.to_le_bytes());
+            let (status, answer, room) = shown(&bench, &link, &sent, BENCH_LENGTH);
+            assert_eq!((status, answer), (0, [0, 4, count as u32]));
+            assert!(room == expected, "{count}");
+        }
+        // The cleared lane's old key is shown too, and what no lane has ever held.
+        assert_eq!(
+            bench[181..193],
+            [0, 3, 90, 90, 90, 90, 90, 90, 90, 90, 90, 90]
+        );
+        assert_eq!(bench[21..25], [0, 0x77, 0x77, 0x77]);
+    }
+
+    /// A repeat and refused records show the bench's own bytes; so does a damaged bench.
+    #[test]
+    fn previews_that_alter_nothing() {
+        let (bench, link) = memory();
+        let repeat = clear(3, 1 << 9);
+        let again = shown(&bench, &link, &repeat, BENCH_LENGTH);
+        assert_eq!(again, (0, [1, 3, 0], bench.clone()));
+        let refused = [
+            (2, vec![]),
+            (8, clear(4, 0)),
+            (9, forward(5, 1, 1)),
+            (10, clear(3, 1 << 8)),
+        ];
+        for (check, sent) in refused {
+            let expected = (check, [7; 3], bench.clone());
+            assert_eq!(shown(&bench, &link, &sent, BENCH_LENGTH), expected);
+        }
+        for (at, byte) in [(0, 7), (1, 2), (2, 255), (17, 1)] {
+            let mut damaged = bench.clone();
+            damaged[at] = byte;
+            let expected = (1, [7; 3], damaged.clone());
+            assert_eq!(shown(&damaged, &link, &repeat, BENCH_LENGTH), expected);
+            assert_eq!(shown(&damaged, &link[1..], &repeat, BENCH_LENGTH), expected);
+        }
+    }
+
+    /// Nothing is written without a whole bench or room; a damaged bench is found before the room.
+    #[test]
+    fn previews_of_other_lengths() {
+        let (bench, link) = memory();
+        let sent = forward(4, 1, 5);
+        let mut damaged = bench.clone();
+        damaged[0] = 0;
+        for size in [0, BENCH_LENGTH - 1, BENCH_LENGTH + 1] {
+            let nothing = |check| (check, [7; 3], vec![0x99; size]);
+            assert_eq!(shown(&bench, &link, &sent, size), nothing(2));
+            assert_eq!(shown(&damaged, &link, &sent, size), nothing(1));
+            assert_eq!(shown(&damaged[1..], &link, &sent, size), nothing(2));
+        }
+        let (status, answer, room) = shown(&bench[1..], &link, &sent, BENCH_LENGTH);
+        assert_eq!(
+            (status, answer, room),
+            (2, [7; 3], vec![0x99; BENCH_LENGTH])
+        );
+        assert_eq!(
+            shown(&bench, &link[1..], &sent, BENCH_LENGTH),
+            (2, [7; 3], bench.clone())
+        );
+        let (mut answer, mut room) = ([7; 4], vec![0x99; BENCH_LENGTH]);
+        assert_eq!(preview(&bench, &link, &sent, &mut answer, &mut room), 2);
+        assert!(answer == [7; 4] && room == bench);
     }
 }
