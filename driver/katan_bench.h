@@ -3,9 +3,10 @@
  * shows them in use.
  *
  * Status. Each call but katan_version and katan_cycles returns 0, or the number of the first fault found. The faults
- * are looked for by rising number, as each call says under "Checked", with two exceptions: katan_arrive and katan_read
- * look at the bench's length (2), then at the bench (1), then at the other lengths (2); katan_keystream looks for 14
- * before 7. A refused call leaves all lent memory as it was.
+ * are looked for by rising number, as each call says under "Checked", with two exceptions: katan_arrive, katan_preview
+ * and katan_read look at the bench's length (2), then at the bench (1), then at the other lengths (2); katan_keystream
+ * looks for 14 before 7. A refused call leaves all lent memory as it was, with one exception: katan_preview writes its
+ * room also where it is refused.
  *
  * Slices. A slice is lent as a pointer and then its length, in elements, not in bytes. A length other than the one
  * named at the call gets KATAN_BAD_LENGTH; data too long for a keystream gets KATAN_BEYOND_END. A pointer is aligned
@@ -34,10 +35,10 @@ extern "C" {
 #endif
 
 /*
- * The version of this header: it rises with every change of a call's parameters, its numbers or a layout. A driver
- * compares it with katan_version(), which the archive was built with.
+ * The version of this header: it rises with every new call, and with every change of a call's parameters, its numbers
+ * or a layout. A driver compares it with katan_version(), which the archive was built with.
  */
-#define KATAN_VERSION 3
+#define KATAN_VERSION 4
 
 /* The variants. The number in a name is n, the bits of a block: 32, 48 or 64. */
 #define KATAN32 1
@@ -53,19 +54,22 @@ extern "C" {
  */
 #define KATAN_OK 0              /* not refused */
 #define KATAN_BAD_VARIANT 1     /* the variant is not 1 to 6 (every call with a status), or a lane of the bench handed
-                                   in is damaged (katan_arrive, katan_read) */
+                                   in is damaged (katan_arrive, katan_preview, katan_read) */
 #define KATAN_BAD_LENGTH 2      /* lent memory has another length, there are 0 or over 64 blocks, or a list is not whole
                                    calls of the two kinds (every call with a status) */
-#define KATAN_BAD_KIND 3        /* the record's kind is not 1 to 4 (katan_arrive) */
-#define KATAN_FIELD_NOT_ZERO 4  /* an unused field or a zero byte of the record is not zero (katan_arrive) */
-#define KATAN_BAD_LANE 5        /* the lane is over 63 (katan_arrive, katan_read) */
-#define KATAN_BAD_POSITION 6    /* a load position is over 254, or a move count is 0 or over 254 (katan_arrive) */
+#define KATAN_BAD_KIND 3        /* the record's kind is not 1 to 4 (katan_arrive, katan_preview) */
+#define KATAN_FIELD_NOT_ZERO 4  /* an unused field or a zero byte of the record is not zero (katan_arrive,
+                                   katan_preview) */
+#define KATAN_BAD_LANE 5        /* the lane is over 63 (katan_arrive, katan_preview, katan_read) */
+#define KATAN_BAD_POSITION 6    /* a load position is over 254, or a move count is 0 or over 254 (katan_arrive,
+                                   katan_preview) */
 #define KATAN_BAD_BLOCK 7       /* a block, or the start of a keystream, is 2^n or more, never so where n is 64
-                                   (katan_encrypt, katan_decrypt, both for many blocks, katan_keystream, katan_arrive) */
-#define KATAN_EMPTY_MASK 8      /* the mask of a move or clear is 0 (katan_arrive) */
+                                   (katan_encrypt, katan_decrypt, both for many blocks, katan_keystream, katan_arrive,
+                                   katan_preview) */
+#define KATAN_EMPTY_MASK 8      /* the mask of a move or clear is 0 (katan_arrive, katan_preview) */
 #define KATAN_OUT_OF_TURN 9     /* the number is neither last + 1 nor a nonzero last; numbers do not wrap, and after
-                                   4,294,967,295 no further record counts (katan_arrive) */
-#define KATAN_OTHER_BYTES 10    /* the number is last but the bytes differ (katan_arrive) */
+                                   4,294,967,295 no further record counts (katan_arrive, katan_preview) */
+#define KATAN_OTHER_BYTES 10    /* the number is last but the bytes differ (katan_arrive, katan_preview) */
 #define KATAN_EMPTY_LANE 11     /* the lane read is empty (katan_read) */
 #define KATAN_BAD_RATE 12       /* the clock rate is 0 or over KATAN_HIGHEST_RATE (katan_bit_rate) */
 #define KATAN_BEYOND_END 14     /* the start plus the number of blocks exceeds 2^n, or the data is longer than
@@ -119,7 +123,7 @@ extern "C" {
 #define KATAN_RECORD_KEY 16      /* KATAN_KEY_LENGTH bytes */
 #define KATAN_RECORD_BLOCK 26    /* 8 bytes */
 
-/* The first word of the answer to an arrival. */
+/* The first word of the answer to an arrival or a preview. */
 #define KATAN_DONE 0
 #define KATAN_AGAIN 1
 
@@ -133,8 +137,8 @@ extern "C" {
  *         bytes 2 to 11          its key: key bit 8 j + b is bit b of byte j of the key
  *         bytes 12 to 19         its registers, below 2^n
  *
- * A bench may hold any bytes: katan_arrive and katan_read check every lane of it. A lane with another state, or a
- * loaded one with a position over 254 or a register bit set at n or above, is damaged, and both return
+ * A bench may hold any bytes: katan_arrive, katan_preview and katan_read check every lane of it. A lane with another
+ * state, or a loaded one with a position over 254 or a register bit set at n or above, is damaged, and all three return
  * KATAN_BAD_VARIANT. Of an empty lane only the state is looked at and written: the other bytes are kept, and the
  * driver may overwrite them. SO A LANE THAT IS CLEARED KEEPS ITS OLD KEY in memory until it is loaded again or the
  * driver wipes it, and two benches whose lanes are alike may differ there.
@@ -247,6 +251,26 @@ uint8_t katan_open(uint8_t variant, uint8_t *bench, size_t bench_length, uint8_t
  */
 uint8_t katan_arrive(uint8_t *bench, size_t bench_length, uint8_t *link, size_t link_length,
                      const uint8_t *record, size_t record_length, uint32_t *answer, size_t answer_length);
+
+/*
+ * What katan_arrive would do, without doing it: the record, of any bytes and length, is given to a copy. Bench and link
+ * are only read, so previews may stand anywhere among other calls without effect on them.
+ *
+ * `answer` has KATAN_ARRIVAL_WORDS elements. On status 0 they are those that katan_arrive would give.
+ *
+ * `room` has KATAN_BENCH_LENGTH bytes, holding anything, other memory than the bench. WHATEVER THE STATUS, THE ROOM IS
+ * WRITTEN, and has then, byte for byte, what katan_arrive would leave in the bench's memory: for a record that would be
+ * done, the bench as it leaves it; for a repeat and on every refusal, the bench's own bytes as they are, also those of a
+ * damaged bench, and also where link, answer or record has another length. Only where the bench or the room itself has
+ * another length there is nothing to show, and nothing is written. Empty lanes are copied whole: the old key of a lane
+ * that was cleared is in the room too.
+ *
+ * The status is katan_arrive's but for the room: one of another length gets 2, also where the record would count.
+ * Checked: 2 of `bench`; 1; 2 of `link`, `answer`, `room` and `record`; 3 to 10.
+ */
+uint8_t katan_preview(const uint8_t *bench, size_t bench_length, const uint8_t *link, size_t link_length,
+                      const uint8_t *record, size_t record_length, uint32_t *answer, size_t answer_length,
+                      uint8_t *room, size_t room_length);
 
 /*
  * Reads a lane; any number may be passed for it. `answer` has KATAN_READING_WORDS elements. On status 0 they are the

@@ -18,9 +18,9 @@ use std::fmt;
 
 pub mod raw;
 
-/// The version of the calls that this crate was written for: it rises with every change of a call's
-/// parameters, its numbers or a layout.
-pub const VERSION: u32 = 3;
+/// The version of the calls that this crate was written for: it rises with every new call, and with
+/// every change of a call's parameters, its numbers or a layout.
+pub const VERSION: u32 = 4;
 
 /// The version of the calls that the archive was built with.
 ///
@@ -221,11 +221,51 @@ pub enum Reply {
     Again { number: u32, total: u32 },
 }
 
+impl Reply {
+    fn from_words([again, number, total]: [u32; 3]) -> Reply {
+        match again {
+            0 => Reply::Done { number, total },
+            _ => Reply::Again { number, total },
+        }
+    }
+}
+
 /// The answer to a read.
 #[derive(Clone, Copy, Debug, PartialEq, Eq)]
 pub struct Reading {
     pub position: u8,
     pub registers: u64,
+}
+
+/// A lane as a preview shows it.
+#[derive(Clone, Copy, Debug, PartialEq, Eq)]
+pub enum Lane {
+    Empty,
+    /// Its position and registers. On a bench that is refused as damaged they may be too large.
+    Loaded(Reading),
+    /// Its state is neither empty nor loaded.
+    Damaged,
+}
+
+impl Lane {
+    fn from_bytes(bytes: &[u8]) -> Lane {
+        match bytes[0] {
+            0 => Lane::Empty,
+            1 => Lane::Loaded(Reading {
+                position: bytes[1],
+                registers: u64::from_le_bytes(bytes[12..].try_into().unwrap()),
+            }),
+            _ => Lane::Damaged,
+        }
+    }
+}
+
+/// What a record would do: its reply, and the lanes as it would leave them. For a record that is refused
+/// or a repeat they are the bench's own.
+#[derive(Clone, Debug, PartialEq, Eq)]
+pub struct Preview {
+    pub reply: Result<Reply, Refusal>,
+    pub lanes: [Lane; raw::LANES],
 }
 
 /// A bench of 64 lanes with its link.
@@ -275,12 +315,50 @@ impl Bench {
     pub fn arrive(&mut self, sent: &[u8]) -> Result<Reply, Refusal> {
         let mut answer = [0; 3];
         let status = raw::arrive(&mut self.bench, &mut self.link, sent, &mut answer);
-        let [again, number, total] = answer;
-        let reply = match again {
-            0 => Reply::Done { number, total },
-            _ => Reply::Again { number, total },
-        };
-        checked(status, reply)
+        checked(status, Reply::from_words(answer))
+    }
+
+    /// What a record of any bytes and length would do, without doing it: reply and lanes are those that
+    /// a copy gets.
+    ///
+    /// ```
+    /// use katan_bench::{record, Bench, Lane, Reading, Refusal, Reply};
+    ///
+    /// let mut bench = Bench::open(1)?;
+    /// bench.arrive(&record::load(1, 0, 0, &[0xff; 10], 0))?;
+    ///
+    /// // The class sees what the step would do.
+    /// let step = record::forward(2, 1, 5);
+    /// let shown = bench.preview(&step);
+    /// let moved = Reading { position: 5, registers: 0x00f8001e };
+    /// assert_eq!(shown.reply, Ok(Reply::Done { number: 2, total: 5 }));
+    /// assert_eq!(shown.lanes[0], Lane::Loaded(moved));
+    /// assert_eq!(shown.lanes[1], Lane::Empty);
+    ///
+    /// // The lane itself has not moved.
+    /// let start = Reading { position: 0, registers: 0 };
+    /// assert_eq!(bench.read(0), Ok(start));
+    ///
+    /// // A garbled step would be refused, and leave the lanes as they are.
+    /// let mut garbled = step;
+    /// garbled[0] = 9;
+    /// let refused = bench.preview(&garbled);
+    /// assert_eq!(refused.reply, Err(Refusal::BadKind));
+    /// assert_eq!(refused.lanes[0], Lane::Loaded(start));
+    ///
+    /// // The class commits: the reply and the lane are those shown.
+    /// assert_eq!(bench.arrive(&step), shown.reply);
+    /// assert_eq!(bench.read(0), Ok(moved));
+    /// # Ok::<(), Refusal>(())
+    /// ```
+    pub fn preview(&self, sent: &[u8]) -> Preview {
+        let (mut answer, mut room) = ([0; 3], [0; raw::BENCH_LENGTH]);
+        let status = raw::preview(&self.bench, &self.link, sent, &mut answer, &mut room);
+        let lane = |i| Lane::from_bytes(&room[1 + raw::LANE_LENGTH * i..][..raw::LANE_LENGTH]);
+        Preview {
+            reply: checked(status, Reply::from_words(answer)),
+            lanes: std::array::from_fn(lane),
+        }
     }
 
     /// The position and registers of a lane of any number.

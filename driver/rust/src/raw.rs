@@ -1,8 +1,15 @@
 //! The driver's functions as they are, on slices: each returns 0 or the number of the first fault
-//! found, and a refused call leaves every output as it was. They take any lengths and any bytes.
+//! found, and a refused call leaves every output as it was, but for the room of [`preview`]. They take
+//! any lengths and any bytes.
 
-/// The bytes of a bench: its variant, then 64 lanes of 20 bytes.
-pub const BENCH_LENGTH: usize = 1281;
+/// The lanes of a bench.
+pub const LANES: usize = 64;
+
+/// The bytes of a lane: its state, its position, its key, its registers.
+pub const LANE_LENGTH: usize = 20;
+
+/// The bytes of a bench: its variant, then its lanes.
+pub const BENCH_LENGTH: usize = 1 + LANE_LENGTH * LANES;
 
 /// The bytes of a link.
 pub const LINK_LENGTH: usize = 48;
@@ -75,6 +82,18 @@ mod c {
             sent_length: usize,
             answer: *mut u32,
             answer_length: usize,
+        ) -> u8;
+        pub fn katan_preview(
+            bench: *const u8,
+            bench_length: usize,
+            link: *const u8,
+            link_length: usize,
+            sent: *const u8,
+            sent_length: usize,
+            answer: *mut u32,
+            answer_length: usize,
+            room: *mut u8,
+            room_length: usize,
         ) -> u8;
         pub fn katan_read(
             bench: *const u8,
@@ -204,6 +223,26 @@ pub fn arrive(bench: &mut [u8], link: &mut [u8], sent: &[u8], answer: &mut [u32]
             sent.len(),
             answer.as_mut_ptr(),
             answer.len(),
+        )
+    }
+}
+
+/// What [`arrive`] would answer, and in the room what it would leave in the bench's memory: the bench's
+/// own bytes where the record is refused or a repeat. Only with a bench or a room of another length is
+/// the room left as it was.
+pub fn preview(bench: &[u8], link: &[u8], sent: &[u8], answer: &mut [u32], room: &mut [u8]) -> u8 {
+    unsafe {
+        c::katan_preview(
+            bench.as_ptr(),
+            bench.len(),
+            link.as_ptr(),
+            link.len(),
+            sent.as_ptr(),
+            sent.len(),
+            answer.as_mut_ptr(),
+            answer.len(),
+            room.as_mut_ptr(),
+            room.len(),
         )
     }
 }
