@@ -1,5 +1,6 @@
-// A bench is opened, a lane loaded and stepped; the answer to the step is lost, so the step is sent once more, and the lane is read. Then the
-// same as one list of calls.
+// A bench is opened and a lane loaded. The step is previewed, and the lane has not moved; a garbled copy of the step is previewed too. Then the
+// lane is stepped; the answer to the step is lost, so the step is sent once more, and the lane is read. Then the load, the step and the read
+// as one list of calls.
 #include "katan_bench.h"
 
 #include <stdio.h>
@@ -45,18 +46,47 @@ static void accepted(uint8_t status) {
     }
 }
 
+static void print_answer(const uint32_t *answer) {
+    printf("%s %u, total %u", answer[0] == KATAN_AGAIN ? "again" : "done", answer[1], answer[2]);
+}
+
 static void send(const uint8_t *record) {
     uint32_t answer[KATAN_ARRIVAL_WORDS];
     accepted(katan_arrive(bench, sizeof bench, linked, sizeof linked, record, KATAN_RECORD_LENGTH, answer,
                           KATAN_ARRIVAL_WORDS));
-    printf("%s %u, total %u\n", answer[0] == KATAN_AGAIN ? "again" : "done", answer[1], answer[2]);
+    print_answer(answer);
+    printf("\n");
+}
+
+// What a record would be answered, and lane 0, which is loaded, as it would leave it.
+static void preview(const uint8_t *record) {
+    static uint8_t room[KATAN_BENCH_LENGTH];
+    uint32_t answer[KATAN_ARRIVAL_WORDS];
+    uint8_t status = katan_preview(bench, sizeof bench, linked, sizeof linked, record, KATAN_RECORD_LENGTH, answer,
+                                   KATAN_ARRIVAL_WORDS, room, sizeof room);
+    const uint8_t *lane = room + KATAN_BENCH_LANES;
+    printf("preview: ");
+    if (status == KATAN_OK)
+        print_answer(answer);
+    else
+        printf("status %d", status);
+    printf("; lane 0 at %u: %08x\n", (unsigned)lane[KATAN_LANE_POSITION], (unsigned)get(lane + KATAN_LANE_REGISTERS, 8));
+}
+
+static void read_lane(uint64_t lane) {
+    uint64_t reading[KATAN_READING_WORDS];
+    uint8_t status = katan_read(bench, sizeof bench, lane, reading, KATAN_READING_WORDS);
+    if (status == KATAN_OK)
+        printf("lane %u at %u: %08x\n", (unsigned)lane, (unsigned)reading[0], (unsigned)reading[1]);
+    else
+        printf("lane %u: status %d\n", (unsigned)lane, status);
 }
 
 int main(void) {
     uint8_t key[KATAN_KEY_LENGTH];
     uint8_t loading[KATAN_RECORD_LENGTH];
     uint8_t step[KATAN_RECORD_LENGTH];
-    uint64_t reading[KATAN_READING_WORDS] = {0, 0};
+    uint8_t garbled[KATAN_RECORD_LENGTH];
 
     if (katan_version() != KATAN_VERSION) {
         printf("the archive has another version than the header\n");
@@ -65,14 +95,18 @@ int main(void) {
     memset(key, 0xff, sizeof key);
     load(loading, 1, 0, 0, key, 0);
     forward(step, 2, 1, 5);
+    memcpy(garbled, step, sizeof garbled);
+    garbled[KATAN_RECORD_KIND] = 9;
 
     accepted(katan_open(KATAN32, bench, sizeof bench, linked, sizeof linked));
     send(loading);
+    preview(step);
+    read_lane(0);
+    preview(garbled);
     send(step);
     send(step);
-    accepted(katan_read(bench, sizeof bench, 0, reading, KATAN_READING_WORDS));
-    printf("lane 0 at %u: %08x\n", (unsigned)reading[0], (unsigned)reading[1]);
-    printf("lane 1: status %d\n", katan_read(bench, sizeof bench, 1, reading, KATAN_READING_WORDS));
+    read_lane(0);
+    read_lane(1);
 
     // the load, the step and a read of lane 0, as a list
     uint8_t calls[3 * KATAN_CALL_HEAD_LENGTH + 2 * KATAN_RECORD_LENGTH];
