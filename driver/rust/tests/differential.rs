@@ -4,12 +4,13 @@
 mod common;
 
 use common::{
-    arrival, call_answer, length, list, model_answer, one_of, record, start, variant, width,
+    arrival, call_answer, length, list, model_answer, model_preview, one_of, record, start,
+    variant, width, with_previews, Event,
 };
 use katan_bench::raw::{self, BENCH_LENGTH, LINK_LENGTH};
-use katan_bench::{replay, Answer, Call};
+use katan_bench::{replay, Call};
 use katan_model::calls::Direction;
-use katan_model::{bench as records, driver as model, Random, Variant};
+use katan_model::{bench as records, driver as model, Random, Reply, Variant};
 
 /// A block, mostly below 2^n; at either end now and then.
 fn block(random: &mut Random, variant: u8) -> u64 {
@@ -184,6 +185,15 @@ fn memory(random: &mut Random) -> (Vec<u8>, Vec<u8>) {
     (bench, link)
 }
 
+/// A record for such memory: in turn or not, with faults or without, or the one that the link keeps.
+fn arrival_at(random: &mut Random, bench: &[u8], link: &[u8]) -> Vec<u8> {
+    let variant = bench.first().copied().unwrap_or(1);
+    let last = link
+        .get(..4)
+        .map_or(0, |bytes| u32::from_le_bytes(bytes.try_into().unwrap()));
+    arrival(random, variant, last, link.get(8..).unwrap_or(&[]))
+}
+
 /// Single calls on whatever a driver hands in.
 #[test]
 fn handed_in() {
@@ -211,12 +221,7 @@ fn handed_in() {
                 ((got, first), (expected, second), format!("read {lane}"))
             }
             _ => {
-                let variant = ours.0.first().copied().unwrap_or(1);
-                let kept = |from| ours.1.get(from..).unwrap_or(&[]).to_vec();
-                let last = kept(0)
-                    .get(..4)
-                    .map_or(0, |bytes| u32::from_le_bytes(bytes.try_into().unwrap()));
-                let sent = arrival(&mut random, variant, last, &kept(8));
+                let sent = arrival_at(&mut random, &ours.0, &ours.1);
                 let answer = vec![7; length(&mut random, 3)];
                 let (mut first, mut second) = (answer.clone(), answer);
                 let got = raw::arrive(&mut ours.0, &mut ours.1, &sent, &mut first);
@@ -243,7 +248,120 @@ fn handed_in() {
     );
 }
 
-/// Every two faults at once, in every kind of record, on a bench where two records have counted.
+/// Previews of whatever a driver hands in, into rooms that hold anything.
+#[test]
+fn previews() {
+    let (mut random, calls) = start("previews", 20_000);
+    let mut seen = [0; 11];
+    let (mut again, mut altered) = (0, 0);
+    for _ in 0..calls {
+        let (bench, link) = memory(&mut random);
+        let sent = arrival_at(&mut random, &bench, &link);
+        let answer = vec![7; length(&mut random, 3)];
+        let room_length = length(&mut random, BENCH_LENGTH);
+        let room = random.bytes(room_length);
+        let context = || format!("{sent:02x?}, {room_length} bytes, on {bench:02x?} {link:02x?}");
+
+        let lent = (bench.clone(), link.clone());
+        let (mut ours, mut theirs) = ((answer.clone(), room.clone()), (answer, room.clone()));
+        let got = raw::preview(&lent.0, &lent.1, &sent, &mut ours.0, &mut ours.1);
+        let expected = model::preview(&bench, &link, &sent, &mut theirs.0, &mut theirs.1);
+        assert_eq!((got, &ours.0), (expected, &theirs.0), "{}", context());
+        assert!(ours.1 == theirs.1, "{}: {:02x?}", context(), ours.1);
+        assert!(lent.0 == bench, "{}: bench {:02x?}", context(), lent.0);
+        assert!(lent.1 == link, "{}: link {:02x?}", context(), lent.1);
+
+        let whole = bench.len() == BENCH_LENGTH && room_length == BENCH_LENGTH;
+        let done = got == 0 && ours.0[0] == 0;
+        let own = if whole { &bench } else { &room };
+        assert!(done || ours.1 == *own, "{}: {:02x?}", context(), ours.1);
+        altered += (done && ours.1 != bench) as u32;
+        again += (got == 0 && !done) as u32;
+        seen[expected as usize] += 1;
+    }
+    println!("previews: {again} again, {altered} altered, statuses 0 to 10: {seen:?}");
+    assert!(
+        calls < 10_000 || (again > 0 && altered > 0 && seen.iter().all(|count| *count > 0)),
+        "{again} again, {altered} altered, {seen:?}"
+    );
+}
+
+/// A preview on sound and damaged benches with every choice of right and other lengths: its status, and
+/// what is written of answer and room, as the header says.
+#[test]
+fn lengths_of_a_preview() {
+    let (mut bench, mut link) = (vec![0x5a; BENCH_LENGTH], vec![0; LINK_LENGTH]);
+    assert_eq!(raw::open(1, &mut bench, &mut link), 0);
+    let load = records::load(1, 0, 0, &[0xff; 10], 0);
+    assert_eq!(raw::arrive(&mut bench, &mut link, &load, &mut [0; 3]), 0);
+    // Document 01: position 5 of the zero block under a key of ones.
+    let mut moved = bench.clone();
+    moved[2] = 5;
+    moved[13..17].copy_from_slice(&0x00f8001e_u32.to_le_bytes());
+
+    let sent = [
+        (records::forward(2, 1, 5), 0, [0, 2, 5], &moved),
+        (load.clone(), 0, [1, 1, 0], &bench),
+        (load[..39].to_vec(), 2, [7; 3], &bench),
+        ([&load[..], &[0]].concat(), 2, [7; 3], &bench),
+        (records::clear(2, 0), 8, [7; 3], &bench),
+    ];
+    let damages = [None, Some((0, 7)), Some((2, 255)), Some((21, 2))];
+    for ((sent, check, words, shown), damage) in sent
+        .iter()
+        .flat_map(|sent| damages.map(|damage| (sent, damage)))
+    {
+        // Each of four lengths is right, one less or one more.
+        for choice in 0..81 {
+            let pick = |i, right| [right, right - 1, right + 1][choice / 3_usize.pow(i) % 3];
+            let (bench_length, link_length) = (pick(0, BENCH_LENGTH), pick(1, LINK_LENGTH));
+            let (answer_length, room_length) = (pick(2, 3), pick(3, BENCH_LENGTH));
+            let (mut bench, mut link) = (bench.clone(), link.clone());
+            if let Some((at, byte)) = damage {
+                bench[at] = byte;
+            }
+            bench.resize(bench_length, 0);
+            link.resize(link_length, 0);
+            let (mut answer, mut room) = (vec![7; answer_length], vec![0x99; room_length]);
+
+            let status = if bench_length != BENCH_LENGTH {
+                2
+            } else if damage.is_some() {
+                1
+            } else if [link_length, answer_length, room_length] != [LINK_LENGTH, 3, BENCH_LENGTH] {
+                2
+            } else {
+                *check
+            };
+            let expected = (
+                if status == 0 {
+                    words.to_vec()
+                } else {
+                    answer.clone()
+                },
+                match status {
+                    _ if bench_length != BENCH_LENGTH || room_length != BENCH_LENGTH => {
+                        room.clone()
+                    }
+                    0 => shown.to_vec(),
+                    _ => bench.clone(),
+                },
+            );
+            let context = format!(
+                "{sent:02x?}, damage {damage:?}, lengths {bench_length}, {link_length}, \
+                 {answer_length}, {room_length}"
+            );
+            let lent = (bench.clone(), link.clone());
+            let got = raw::preview(&bench, &link, sent, &mut answer, &mut room);
+            assert_eq!((got, &answer), (status, &expected.0), "{context}");
+            assert!(room == expected.1, "{context}: {room:02x?}");
+            assert!((bench, link) == lent, "{context}: bench or link is written");
+        }
+    }
+}
+
+/// Every two faults at once, in every kind of record, on a bench where two records have counted. Each
+/// record is previewed before it arrives.
 #[test]
 fn pairs_of_faults() {
     type Fault = fn(&mut Vec<u8>);
@@ -295,7 +413,18 @@ fn pairs_of_faults() {
                         (bench.clone(), link.clone(), [7; 3]),
                         (bench.clone(), link.clone(), [7; 3]),
                     );
+                    let (mut answer, mut room) = ([7; 3], vec![0x99; BENCH_LENGTH]);
+                    let shown = raw::preview(&ours.0, &ours.1, &sent, &mut answer, &mut room);
+                    assert!(
+                        ours == theirs,
+                        "variant {variant}, {sent:02x?}: its preview writes bench or link"
+                    );
                     let got = raw::arrive(&mut ours.0, &mut ours.1, &sent, &mut ours.2);
+                    assert!(
+                        (shown, &room, answer) == (got, &ours.0, ours.2),
+                        "variant {variant}, {sent:02x?}: its preview shows {shown}, {answer:?}, \
+                         {room:02x?}"
+                    );
                     let expected =
                         model::arrive(&mut theirs.0, &mut theirs.1, &sent, &mut theirs.2);
                     assert_eq!(got, expected, "variant {variant}, {sent:02x?}");
@@ -314,19 +443,33 @@ fn pairs_of_faults() {
     );
 }
 
-/// What goes wrong with a list, if anything does: call by call with the bench handed back and forth, and
-/// as one replay.
-fn fault_of(variant: u8, calls: &[Call]) -> Option<String> {
+/// What goes wrong with a list, if anything does: call by call with the bench handed back and forth and
+/// previews between them, and the calls alone as one replay. The model gets the calls alone too.
+fn fault_of(variant: u8, events: &[Event]) -> Option<String> {
     let mut reference = katan_model::Bench::new(variant).unwrap();
     let mut bench = katan_bench::Bench::open(variant).unwrap();
-    let expected: Vec<Answer> = calls
-        .iter()
-        .map(|call| model_answer(&mut reference, call))
-        .collect();
-    for (i, call) in calls.iter().enumerate() {
-        let got = call_answer(&mut bench, call);
-        if got != expected[i] {
-            return Some(format!("call {i} answered {got:?}, not {:?}", expected[i]));
+    let (mut calls, mut expected) = (Vec::new(), Vec::new());
+    for (i, event) in events.iter().enumerate() {
+        match event {
+            Event::Call(call) => {
+                let answer = model_answer(&mut reference, call);
+                let got = call_answer(&mut bench, call);
+                if got != answer {
+                    return Some(format!("event {i} answered {got:?}, not {answer:?}"));
+                }
+                calls.push(call.clone());
+                expected.push(answer);
+            }
+            Event::Preview(sent) => {
+                let before = bench.clone();
+                let (got, shown) = (bench.preview(sent), model_preview(&reference, sent));
+                if got != shown {
+                    return Some(format!("event {i} shows {got:x?}, not {shown:x?}"));
+                }
+                if bench != before {
+                    return Some(format!("event {i} leaves {bench:02x?}, not {before:02x?}"));
+                }
+            }
         }
     }
     for lane in 0..records::LANES as u32 {
@@ -335,7 +478,7 @@ fn fault_of(variant: u8, calls: &[Call]) -> Option<String> {
             return Some(format!("lane {lane} is not left as {expected:?}"));
         }
     }
-    let (answers, left) = match replay(variant, calls) {
+    let (answers, left) = match replay(variant, &calls) {
         Ok(replayed) => replayed,
         Err(refusal) => return Some(format!("the replay is {refusal}")),
     };
@@ -348,71 +491,83 @@ fn fault_of(variant: u8, calls: &[Call]) -> Option<String> {
         .map(|lane| format!("the replay leaves lane {lane} otherwise"))
 }
 
-/// The same calls with all records numbered in turn.
-fn renumbered(calls: &[Call]) -> Vec<Call> {
-    let mut number: u32 = 0;
-    let mut calls = calls.to_vec();
-    for call in &mut calls {
-        if let Call::Arrive(sent) = call {
-            if sent.len() == records::RECORD_LENGTH {
-                number += 1;
-                *sent = records::numbered(sent, number);
-            }
+/// The same list with all records numbered in turn, a previewed one as the next that arrives.
+fn renumbered(events: &[Event]) -> Vec<Event> {
+    let mut number: u32 = 1;
+    let mut events = events.to_vec();
+    for event in &mut events {
+        let (sent, arrives) = match event {
+            Event::Call(Call::Arrive(sent)) => (sent, true),
+            Event::Preview(sent) => (sent, false),
+            Event::Call(Call::Read(_)) => continue,
+        };
+        if sent.len() == records::RECORD_LENGTH {
+            *sent = records::numbered(sent, number);
+            number += arrives as u32;
         }
     }
-    calls
+    events
 }
 
-/// The list with some calls left out that still goes wrong; as it was where there is none.
-fn shorter(variant: u8, mut calls: Vec<Call>) -> Vec<Call> {
-    let mut part = calls.len().div_ceil(2);
+/// The list with some events left out that still goes wrong; as it was where there is none.
+fn shorter(variant: u8, mut events: Vec<Event>) -> Vec<Event> {
+    let mut part = events.len().div_ceil(2);
     while part > 0 {
         let mut from = 0;
-        while from < calls.len() {
-            let mut fewer = calls.clone();
-            fewer.drain(from..(from + part).min(calls.len()));
+        while from < events.len() {
+            let mut fewer = events.clone();
+            fewer.drain(from..(from + part).min(events.len()));
             let in_turn = renumbered(&fewer);
             match [fewer, in_turn]
                 .into_iter()
                 .find(|list| fault_of(variant, list).is_some())
             {
-                Some(list) => calls = list,
+                Some(list) => events = list,
                 None => from += part,
             }
         }
         part /= 2;
     }
-    calls
+    events
 }
 
-/// The shortest list found, by leaving out calls, that still goes wrong.
-fn shrunk(variant: u8, mut calls: Vec<Call>) -> Vec<Call> {
+/// The shortest list found, by leaving out events, that still goes wrong.
+fn shrunk(variant: u8, mut events: Vec<Event>) -> Vec<Event> {
     loop {
-        let length = calls.len();
-        calls = shorter(variant, calls);
-        if calls.len() == length {
-            return calls;
+        let length = events.len();
+        events = shorter(variant, events);
+        if events.len() == length {
+            return events;
         }
     }
 }
 
-/// Lists of calls from a fresh bench and link.
+/// Lists of calls from a fresh bench and link, with previews strewn in.
 #[test]
 fn lists() {
     let (mut random, calls) = start("lists", 40_000);
-    let mut made = 0;
+    let (mut made, mut done, mut again) = (0, 0, 0);
+    let mut refused = [0; 11];
     while made < calls {
         let variant = 1 + random.below(6) as u8;
         let list = list(&mut random, variant);
         made += 2 * list.len() as u64;
-        if fault_of(variant, &list).is_some() {
-            let least = shrunk(variant, list);
+        let events = with_previews(&mut random, variant, &list, |reply| match reply {
+            Reply::Done { .. } => done += 1,
+            Reply::Again { .. } => again += 1,
+            Reply::Refused(check) => refused[check as usize] += 1,
+        });
+        if fault_of(variant, &events).is_some() {
+            let least = shrunk(variant, events);
             let fault = fault_of(variant, &least);
-            let lines: Vec<String> = least.iter().map(|call| format!("{call:02x?}")).collect();
+            let lines: Vec<String> = least.iter().map(|event| format!("{event:02x?}")).collect();
             panic!("variant {variant}: {fault:?}\n{}", lines.join("\n"));
         }
     }
     println!("lists: {made} calls, half of them in replays");
+    println!("lists: previews: {done} done, {again} again, refused 0 to 10: {refused:?}");
+    let all = done > 0 && again > 0 && refused[2..].iter().all(|count| *count > 0);
+    assert!(calls < 10_000 || all, "{done}, {again}, {refused:?}");
 }
 
 /// Lists of calls that are not laid out as they must be, and outputs without the right room.

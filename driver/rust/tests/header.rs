@@ -1,6 +1,6 @@
 //! The numbers of the C header, against the calls.
 
-use katan_bench::{raw, record, version, Bench, Reading, Refusal, LONGEST_DATA, VERSION};
+use katan_bench::{raw, record, version, Bench, Lane, Reading, Refusal, LONGEST_DATA, VERSION};
 use std::collections::HashMap;
 
 /// The header's names for numbers: `#define NAME NUMBER`, perhaps with a suffix and a comment.
@@ -46,6 +46,8 @@ fn statuses_and_lengths() {
     assert_eq!(names["KATAN_VERSION"], VERSION as usize);
     assert_eq!(version(), VERSION);
     assert_eq!(names["KATAN_RECORD_LENGTH"], record::LENGTH);
+    assert_eq!(names["KATAN_LANES"], raw::LANES);
+    assert_eq!(names["KATAN_LANE_LENGTH"], raw::LANE_LENGTH);
     let lanes = names["KATAN_LANE_LENGTH"] * names["KATAN_LANES"];
     assert_eq!(names["KATAN_BENCH_LANES"] + lanes, raw::BENCH_LENGTH);
     assert_eq!(
@@ -120,6 +122,46 @@ fn offsets() {
     let at = names["KATAN_LINK_TOTAL"];
     assert_eq!(number(&link[at..at + 4]), 7);
     assert_eq!(link[names["KATAN_LINK_RECORD"]..], sent);
+}
+
+/// Loaded lanes, an empty one and damaged ones, by the header's offsets: a preview that is refused for
+/// them shows each as it is.
+#[test]
+fn lanes_as_they_are() {
+    let names = names();
+    let mut bench = Bench::open(names["KATAN64"] as u8).unwrap();
+    let block = 0x0123_4567_89ab_cdef;
+    for lane in 0..raw::LANES as u8 - 1 {
+        let load = record::load(u32::from(lane) + 1, lane, lane + 100, &[lane; 10], block);
+        bench.arrive(&load).unwrap();
+    }
+    let (bytes, link) = bench.bytes();
+    let (mut bytes, link) = (*bytes, *link);
+    let lane = |i: usize| names["KATAN_BENCH_LANES"] + names["KATAN_LANE_LENGTH"] * i;
+    for state in 2..=255_u8 {
+        bytes[lane(7) + names["KATAN_LANE_STATE"]] = state;
+        bytes[lane(8) + names["KATAN_LANE_POSITION"]] = state;
+        bytes[lane(62) + names["KATAN_LANE_REGISTERS"] + 7] = state;
+        let shown = Bench::from_bytes(bytes, link).preview(&record::clear(64, u64::MAX));
+        assert_eq!(shown.reply, Err(Refusal::BadVariant));
+        for (i, lane) in shown.lanes.into_iter().enumerate() {
+            let mut reading = Reading {
+                position: i as u8 + 100,
+                registers: block,
+            };
+            match i {
+                8 => reading.position = state,
+                62 => reading.registers = u64::from(state) << 56 | block & (u64::MAX >> 8),
+                _ => {}
+            }
+            let expected = match i {
+                7 => Lane::Damaged,
+                63 => Lane::Empty,
+                _ => Lane::Loaded(reading),
+            };
+            assert_eq!(lane, expected, "lane {i}");
+        }
+    }
 }
 
 /// The four kinds of answers, by the header's names.

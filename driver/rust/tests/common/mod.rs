@@ -4,7 +4,7 @@
 // No test file needs all of it.
 #![allow(dead_code)]
 
-use katan_bench::{Answer, Call, Reading, Refusal, Reply};
+use katan_bench::{Answer, Call, Lane, Preview, Reading, Refusal, Reply};
 use katan_model::{bench as records, Random, Variant};
 
 /// A number from the environment, or the one given.
@@ -177,4 +177,60 @@ pub fn list(random: &mut Random, variant: u8) -> Vec<Call> {
             call
         })
         .collect()
+}
+
+/// What a preview of a record must show: a copy of the model's bench gets it.
+pub fn model_preview(bench: &katan_model::Bench, sent: &[u8]) -> Preview {
+    let mut copy = bench.clone();
+    let reply = match model_answer(&mut copy, &Call::Arrive(sent.to_vec())) {
+        Answer::Reply(reply) => Ok(reply),
+        Answer::Refused(refusal) => Err(refusal),
+        Answer::Reading(_) => unreachable!(),
+    };
+    let lanes = std::array::from_fn(|lane| match copy.read(lane as u64) {
+        katan_model::Reading::At {
+            position,
+            registers,
+        } => Lane::Loaded(Reading {
+            position,
+            registers,
+        }),
+        katan_model::Reading::Refused(_) => Lane::Empty,
+    });
+    Preview { reply, lanes }
+}
+
+/// A call of a list, or a preview that stands among the calls.
+#[derive(Clone, Debug)]
+pub enum Event {
+    Call(Call),
+    Preview(Vec<u8>),
+}
+
+/// The calls with previews strewn in: of the record that comes next, of the latest that counted, and of
+/// any other. What the model answers to these is given to `seen`.
+pub fn with_previews(
+    random: &mut Random,
+    variant: u8,
+    calls: &[Call],
+    mut seen: impl FnMut(katan_model::Reply),
+) -> Vec<Event> {
+    let mut reference = katan_model::Bench::new(variant).unwrap();
+    let mut events = Vec::new();
+    for call in calls.iter().map(Some).chain([None]) {
+        for _ in 0..one_of(random, &[0, 0, 0, 1, 2]) {
+            let sent = match (random.below(4), call) {
+                (0, Some(Call::Arrive(next))) => next.clone(),
+                (1, _) => reference.latest().to_vec(),
+                _ => arrival(random, variant, reference.last(), reference.latest()),
+            };
+            seen(reference.clone().arrive(&sent));
+            events.push(Event::Preview(sent));
+        }
+        if let Some(call) = call {
+            model_answer(&mut reference, call);
+            events.push(Event::Call(call.clone()));
+        }
+    }
+    events
 }
