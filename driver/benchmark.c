@@ -231,6 +231,47 @@ static void bench_table(void) {
     }
 }
 
+// ---- previews, beside the arrivals that they show
+
+// The best time of a preview divided by the arrival's: the same record on the bench that is kept, the two taking turns.
+static double preview_ratio(const uint8_t *record, int repeats) {
+    static uint8_t room[KATAN_BENCH_LENGTH];
+    uint32_t answer[KATAN_ARRIVAL_WORDS], shown[KATAN_ARRIVAL_WORDS];
+    double arrival = 1e18, preview = 1e18;
+    for (int repeat = 0; repeat < repeats; repeat++) {
+        take_kept();
+        double start = nanoseconds();
+        uint8_t status = katan_preview(bench, sizeof bench, linked, sizeof linked, record, KATAN_RECORD_LENGTH, shown, KATAN_ARRIVAL_WORDS,
+                                       room, sizeof room);
+        double taken = nanoseconds() - start;
+        must(status == 0, "a preview was refused");
+        must(memcmp(bench, kept, sizeof bench) == 0 && memcmp(linked, kept_link, sizeof linked) == 0, "a preview wrote to bench or link");
+        if (taken < preview) preview = taken;
+
+        take_kept();
+        start = nanoseconds();
+        status = katan_arrive(bench, sizeof bench, linked, sizeof linked, record, KATAN_RECORD_LENGTH, answer, KATAN_ARRIVAL_WORDS);
+        taken = nanoseconds() - start;
+        must(status == 0, "an arrival was refused");
+        must(memcmp(room, bench, sizeof room) == 0 && memcmp(shown, answer, sizeof shown) == 0, "results differ");
+        if (taken < arrival) arrival = taken;
+    }
+    return preview / arrival;
+}
+
+static void preview_table(void) {
+    printf("\nA preview, 64 lanes loaded at 0: times as long as the arrival\n");
+    printf("variant   forward 1, one lane   forward 254, 64 lanes\n");
+    for (int variant = 1; variant <= 6; variant++) {
+        uint8_t record[KATAN_RECORD_LENGTH];
+        load_and_keep(variant);
+        move_record(record, KATAN_FORWARD, LANES + 1, 1, 1);
+        double step = preview_ratio(record, 100 * REPEATS);
+        move_record(record, KATAN_FORWARD, LANES + 1, UINT64_MAX, 254);
+        printf("%-9d %-21.2f %.2f\n", variant, step, preview_ratio(record, REPEATS));
+    }
+}
+
 // ---- a sheet of traces: single steps of all lanes, 254 forward and 254 back, without the reads between them. Each
 // step's time is its best in 20 sheets; mean and dearest are over these. Plain C writes out a lane's key bits once and
 // stores the registers after each round, lane by lane.
@@ -295,6 +336,7 @@ int main(void) {
     blocks_table(1);
     message_table(KATAN_LONGEST_DATA);
     bench_table();
+    preview_table();
     sheet_table();
     return 0;
 }
