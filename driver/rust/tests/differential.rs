@@ -463,11 +463,16 @@ fn fault_of(variant: u8, events: &[Event]) -> Option<String> {
             Event::Preview(sent) => {
                 let before = bench.clone();
                 let (got, shown) = (bench.preview(sent), model_preview(&reference, sent));
-                if got != shown {
-                    return Some(format!("event {i} shows {got:x?}, not {shown:x?}"));
-                }
                 if bench != before {
-                    return Some(format!("event {i} leaves {bench:02x?}, not {before:02x?}"));
+                    return Some(format!("event {i} writes to bench or link"));
+                }
+                if got.reply != shown.reply {
+                    let (got, shown) = (got.reply, shown.reply);
+                    return Some(format!("event {i} shows {got:?}, not {shown:?}"));
+                }
+                let mut lanes = got.lanes.iter().zip(&shown.lanes).enumerate();
+                if let Some((lane, (got, shown))) = lanes.find(|(_, (got, shown))| got != shown) {
+                    return Some(format!("event {i}, lane {lane}: {got:x?}, not {shown:x?}"));
                 }
             }
         }
@@ -491,9 +496,10 @@ fn fault_of(variant: u8, events: &[Event]) -> Option<String> {
         .map(|lane| format!("the replay leaves lane {lane} otherwise"))
 }
 
-/// The same list with all records numbered in turn, a previewed one as the next that arrives.
+/// The same list with all records numbered in turn: a previewed one as the next that arrives, or as the
+/// one before if it repeats that.
 fn renumbered(events: &[Event]) -> Vec<Event> {
-    let mut number: u32 = 1;
+    let (mut number, mut before): (u32, _) = (1, Vec::new());
     let mut events = events.to_vec();
     for event in &mut events {
         let (sent, arrives) = match event {
@@ -501,9 +507,16 @@ fn renumbered(events: &[Event]) -> Vec<Event> {
             Event::Preview(sent) => (sent, false),
             Event::Call(Call::Read(_)) => continue,
         };
-        if sent.len() == records::RECORD_LENGTH {
+        if sent.len() != records::RECORD_LENGTH {
+            continue;
+        }
+        if arrives {
+            before = sent.clone();
             *sent = records::numbered(sent, number);
-            number += arrives as u32;
+            number += 1;
+        } else {
+            let repeats = *sent == before;
+            *sent = records::numbered(sent, number - repeats as u32);
         }
     }
     events
