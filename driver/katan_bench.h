@@ -258,7 +258,7 @@ uint8_t katan_arrive(uint8_t *bench, size_t bench_length, uint8_t *link, size_t 
  *
  * `answer` has KATAN_ARRIVAL_WORDS elements. On status 0 they are those that katan_arrive would give.
  *
- * `room` has KATAN_BENCH_LENGTH bytes, holding anything, other memory than the bench. WHATEVER THE STATUS, THE ROOM IS
+ * `room` has KATAN_BENCH_LENGTH bytes, holding anything, not the bench's own memory. WHATEVER THE STATUS, THE ROOM IS
  * WRITTEN, and has then, byte for byte, what katan_arrive would leave in the bench's memory: for a record that would be
  * done, the bench as it leaves it; for a repeat and on every refusal, the bench's own bytes as they are, also those of a
  * damaged bench, and also where link, answer or record has another length. Only where the bench or the room itself has
