@@ -9,5 +9,6 @@ pub mod Numbering
 pub mod Crossed
 pub mod Pairs
 pub mod Exchange
+pub mod Preview
 pub mod Loops
 pub mod Examples

@@ -36,9 +36,9 @@ module _ (v : ℕ) where
     pub total : x .link .total ≡ m .total
     pub machines : Made m
 
-  record Agree (a : State × Answer) (b : Model × Answer) : Type 0 where
-    answer : a .1 ≡ b .1
-    next : Keeps (a .0) (b .0)
+  pub record Agree (a : State × Answer) (b : Model × Answer) : Type 0 where
+    pub answer : a .1 ≡ b .1
+    pub next : Keeps (a .0) (b .0)
 
   -- ---- one call
 
@@ -76,7 +76,7 @@ module _ (v : ℕ) where
         record { answer = ap₂ (λ (n t : ℕ). value (again n t)) (k .last ∙ sym (r .is-last)) (k .total); next = k }
     same-effect s (refused n) e = record { answer = refl; next = k }
 
-    same-call : (c : Call) → Agree (benchTransition x c) (modelTransition v m c)
+    pub same-call : (c : Call) → Agree (benchTransition x c) (modelTransition v m c)
     unfolding benchTransition modelTransition arriveOf readOf modelView
     same-call (arrival s) = rw (same-decision s) (same-effect s (decision (modelView v m) s) refl)
     same-call (reading i) = record { answer = ap₂ (λ (u : ℕ) (lanes : List LaneView). readOutcome u lanes i) (k .variant) (same-views v (x .bench .slots) (m .machines) (k .lanes)); next = k }
@@ -92,7 +92,7 @@ module _ (v : ℕ) where
       let r = same-calls calls (benchTransition x c .0) (modelTransition v m c .0) (a .next) in
       (ap₂ _∷_ (a .answer) (r .0), r .1)
 
-  fresh-keeps : Keeps (freshState v) freshModel
+  pub fresh-keeps : Keeps (freshState v) freshModel
   unfolding freshState freshModel
   fresh-keeps = record { variant = refl; lanes = fresh-follow v laneCount; last = refl; latest = tt; total = refl; machines = fresh-made }
 

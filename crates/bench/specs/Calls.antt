@@ -21,11 +21,11 @@ abbrev pub Answer : Type 0
 Answer = Outcome Response
 
 -- the calls of a list, each finding what the last one left
-module _ {S : Type 0} (transition : S → Call → S × Answer) where
-  unfoldable pub stateAfter : S → List Call → S
+module _ {S C A : Type 0} (transition : S → C → S × A) where
+  unfoldable pub stateAfter : S → List C → S
   stateAfter x [] = x
   stateAfter x (c ∷ cs) = stateAfter (transition x c .0) cs
 
-  unfoldable pub answersTo : S → List Call → List Answer
+  unfoldable pub answersTo : S → List C → List A
   answersTo x [] = []
   answersTo x (c ∷ cs) = transition x c .1 ∷ answersTo (transition x c .0) cs

@@ -7,4 +7,5 @@ pub mod Bench
 pub mod Claim
 pub mod Laws
 pub mod Exchange
+pub mod Preview
 pub mod inner

@@ -1,9 +1,10 @@
-// The stepping bench at work: a fresh bench and link, an arrival, and a read.
+// The stepping bench at work: a fresh bench and link, an arrival, a preview, and a read.
 ghost use mathlib.Core.Path.{_≡_};
 ghost use mathlib.Core.List.{[], _∷_};
 ghost use Rattle.katan.specs.Checks.{value, checked, variantCheck};
 ghost use Rattle.bench.specs.Bench.{freshBench, freshLink, arriveOf, effectOf, readOf, readingAnswer};
-ghost use Rattle.bench_stepping.specs.Answers.{openOutcome, leaving};
+ghost use Rattle.bench.specs.Preview.{previewOf};
+ghost use Rattle.bench_stepping.specs.Answers.{openOutcome, leaving, previewedBy};
 use crate::counted::step;
 use bench::ArrivalResult;
 use bench::Bench;
@@ -147,6 +148,26 @@ pub fn arrive_once(bench: Bench, link: Link, sent: &[u8]) -> ArrivalResult
         bench: after.bench,
         link: lent,
         reply: after.reply,
+    }
+}
+
+// What a preview gives: the reply, and the 64 lanes.
+pub struct PreviewResult {
+    pub reply: Reply,
+    pub slots: [Slot; LANES],
+}
+
+// A record is tried first, on a copy: the caller's bench and link keep their contents.
+pub fn preview(bench: Bench, link: Link, sent: &[u8]) -> PreviewResult
+    ensures { λ r. ⌜ previewedBy r ≡ previewOf bench link (now (sent .entry)) ⌝ }
+{
+    let after = arrive_once(bench, link, sent);
+    let reply = after.reply;
+    let copy = after.bench;
+    let slots = copy.slots;
+    PreviewResult {
+        reply: reply,
+        slots: slots,
     }
 }
 

@@ -1,5 +1,5 @@
 // The calls of a driver in C or Rust, for each a function of `driver_ciphers` or `driver_bench` with the same promise. Each but `katan_version` and
-// `katan_cycles` returns 0 or the number of the first fault found, and a refused call leaves every lent output as it was.
+// `katan_cycles` returns 0 or the number of the first fault found, and a refused call leaves every lent output as it was, but for a preview's room.
 ghost use mathlib.Core.Path.{_≡_};
 ghost use Rattle.katan.specs.Lent.{statusOf, lentAfter};
 ghost use Rattle.lanes.specs.Many.{manyAnswer, manyOf};
@@ -7,7 +7,7 @@ ghost use Rattle.lanes.specs.declared.Direction.the-variants.{Encrypt, Decrypt}
 ghost use Rattle.lanes_keystream.specs.Stream.{streamAnswer, streamOf};
 ghost use Rattle.katan_rate.specs.Rate.{cyclesOf};
 ghost use Rattle.driver_ciphers.specs.Calls.{interfaceVersion, word, encryptCall, decryptCall, rateCall};
-ghost use Rattle.driver_bench.specs.Calls.{openCall, openedBench, openedLink, responseWords, readCall, arriveCall, arrivedBench, arrivedLink, arrivedAnswer, replayCall, replayedBench, replayedAnswers};
+ghost use Rattle.driver_bench.specs.Calls.{openCall, openedBench, openedLink, responseWords, readCall, arriveCall, arrivedBench, arrivedLink, arrivedAnswer, previewCall, previewedAnswer, previewedRoom, replayCall, replayedBench, replayedAnswers};
 
 // The version of these calls.
 #[no_mangle]
@@ -119,6 +119,22 @@ pub extern "C" fn katan_arrive(
         × (now (answer .exit) ≡ arrivedAnswer (now (bench .entry)) (now (link .entry)) (now (sent .entry)) (now (answer .entry))) ⌝ }
 {
     driver_bench::arrive(bench, link, sent, answer)
+}
+
+// What a record would be answered, and, in the room, the memory of the bench that it would leave; the bench's own on every refusal.
+#[no_mangle]
+pub extern "C" fn katan_preview(
+    bench: &[u8],
+    link: &[u8],
+    sent: &[u8],
+    answer: &mut [u32],
+    room: &mut [u8],
+) -> u8
+    ensures { λ r. ⌜ (r ≡ statusOf (previewCall (now (bench .entry)) (now (link .entry)) (now (sent .entry)) (now (answer .entry)) (now (room .entry))))
+        × (now (answer .exit) ≡ previewedAnswer (now (bench .entry)) (now (link .entry)) (now (sent .entry)) (now (answer .entry)) (now (room .entry)))
+        × (now (room .exit) ≡ previewedRoom (now (bench .entry)) (now (link .entry)) (now (sent .entry)) (now (answer .entry)) (now (room .entry))) ⌝ }
+{
+    driver_bench::preview(bench, link, sent, answer, room)
 }
 
 // Reads a lane of any number.

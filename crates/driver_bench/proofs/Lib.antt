@@ -1,3 +1,4 @@
 mod Held
 mod Arrivals
+mod Previews
 mod Replays

@@ -2,7 +2,11 @@
 -- length is refused by 2 before anything is looked for in it.
 -- Assumes nothing.
 use Prim.Native.Nat.{ℕ}
-use mathlib.Core.List.{List, [], _∷_, map}
+use mathlib.Core.List.{List, [], _∷_, _++_, map}
+use mathlib.Core.Bool.{_&&_}
+use lib.Dec.{eqb}
+use lib.ListN.{length}
+use Rattle.katan.specs.Bit.{pick}
 use Rattle.katan.specs.Checks.{Outcome, value, refused, Check, checked, sizeCheck, variantCheck}
 use Rattle.katan.specs.Lent.{lentAfter}
 use Rattle.bench.specs.declared.Bench.{Bench}
@@ -62,11 +66,11 @@ module _ (bench link sent answer : List ℕ) where
   abbrev pub arriveEffect : Effect
   arriveEffect = arriveOf (benchIn bench) (linkIn link) sent
 
+  abbrev pub arriveChecks : List Check
+  arriveChecks = sizeCheck benchLength bench ∷ heldCheck (benchIn bench) ∷ sizeCheck linkLength link ∷ sizeCheck arrivalWords answer ∷ []
+
   unfoldable pub arriveCall : Answer
-  arriveCall =
-      checked
-      (sizeCheck benchLength bench ∷ heldCheck (benchIn bench) ∷ sizeCheck linkLength link ∷ sizeCheck arrivalWords answer ∷ [])
-      (arriveEffect .answer)
+  arriveCall = checked arriveChecks (arriveEffect .answer)
 
   abbrev pub arrivedBench : List ℕ
   arrivedBench = ifCounted arriveCall (benchBytes (arriveEffect .bench) bench) bench
@@ -76,6 +80,21 @@ module _ (bench link sent answer : List ℕ) where
 
   abbrev pub arrivedAnswer : List ℕ
   arrivedAnswer = lentAfter responseWords arriveCall answer
+
+-- ---- a preview
+
+module _ (bench link sent answer room : List ℕ) where
+  -- the checks of an arrival, and then 2 of the room
+  unfoldable pub previewCall : Answer
+  previewCall = checked (arriveChecks bench link sent answer ++ sizeCheck benchLength room ∷ []) (arriveEffect bench link sent answer .answer)
+
+  abbrev pub previewedAnswer : List ℕ
+  previewedAnswer = lentAfter responseWords previewCall answer
+
+  -- The room becomes what an arrival would leave in a copy of the bench's memory, whatever the status. Where bench or room has another length there is
+  -- nothing to show, and the room stays.
+  abbrev pub previewedRoom : List ℕ
+  previewedRoom = pick (eqb (length bench) benchLength && eqb (length room) benchLength) (arrivedBench bench link sent answer) room
 
 -- ---- a whole list of calls, on a fresh bench and link: the answers are the reference model's
 

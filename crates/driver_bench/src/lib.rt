@@ -1,5 +1,5 @@
 // The calls of a driver on a bench: numbers, and lent slices. Each returns 0 or document 01's number of the first fault found, and a refused call
-// leaves every lent output as it was.
+// leaves every lent output as it was, but for a preview's room.
 ghost use mathlib.Core.Path.{_≡_};
 ghost use mathlib.Core.List.{[], _∷_};
 ghost use lib.ListN.{length};
@@ -7,17 +7,20 @@ ghost use Rattle.katan.specs.Lent.{statusOf, lentAfter};
 ghost use Rattle.bench.specs.Bench.{replyAnswer, readingAnswer};
 ghost use Rattle.bench_replay.specs.Replay.{replayOutcome};
 ghost use Rattle.driver_layout.specs.Layout.{benchLength, linkLength, benchBytes, linkBytes};
-ghost use Rattle.driver_bench.specs.Calls.{openCall, openedBench, openedLink, arrivalWords, readingWords, responseWords, ifCounted, readCall, arriveCall, arrivedBench, arrivedLink, arrivedAnswer, replayCall, replayedBench, replayedAnswers};
+ghost use Rattle.driver_bench.specs.Calls.{openCall, openedBench, openedLink, arrivalWords, readingWords, responseWords, ifCounted, readCall, arriveCall, arrivedBench, arrivedLink, arrivedAnswer, previewCall, previewedAnswer, previewedRoom, replayCall, replayedBench, replayedAnswers};
 use bench::ArrivalResult;
+use bench::Bench;
 use bench::ReadAnswer;
 use bench::Reply;
 use bench_replay::ReplayAnswer;
 use bench_replay::Replayed;
+use bench_stepping::PreviewResult;
 use driver_layout::BENCH_LENGTH;
 use driver_layout::LINK_LENGTH;
 use driver_layout::bench_in;
 use driver_layout::link_in;
 use driver_layout::put_bench;
+use driver_layout::put_copy;
 use driver_layout::put_link;
 use katan::Refusal;
 use katan_variants::refusal_number;
@@ -45,21 +48,13 @@ fn put_response(again: u32, number: u32, total: u32, answer: &mut [u32])
     answer[2] = total;
 }
 
-// What an arrival answers, into the words lent for it. Bench and link are written only by one that counts.
-fn put_arrival(after: ArrivalResult, bench: &mut [u8], link: &mut [u8], answer: &mut [u32]) -> u8
-    requires { ⌜ (length (now bench) ≡ benchLength) × (length (now link) ≡ linkLength) × (length (now answer) ≡ arrivalWords) ⌝ }
-    ensures { λ r. ⌜ (r ≡ statusOf (replyAnswer (after .reply)))
-        × (now (bench .exit) ≡ ifCounted (replyAnswer (after .reply)) (benchBytes (after .bench) (now (bench .entry))) (now (bench .entry)))
-        × (now (link .exit) ≡ ifCounted (replyAnswer (after .reply)) (linkBytes (after .link)) (now (link .entry)))
-        × (now (answer .exit) ≡ lentAfter responseWords (replyAnswer (after .reply)) (now (answer .entry))) ⌝ }
+// What a record is answered, into the words lent for it.
+fn put_reply(reply: Reply, answer: &mut [u32]) -> u8
+    requires { ⌜ length (now answer) ≡ arrivalWords ⌝ }
+    ensures { λ r. ⌜ (r ≡ statusOf (replyAnswer reply)) × (now (answer .exit) ≡ lentAfter responseWords (replyAnswer reply) (now (answer .entry))) ⌝ }
 {
-    let reply = after.reply;
     match reply {
         Reply::Done { number, total } => {
-            let next = after.bench;
-            let kept = after.link;
-            put_bench(next, bench);
-            put_link(kept, link);
             put_response(DONE, number, total, answer);
             ACCEPTED
         }
@@ -68,6 +63,45 @@ fn put_arrival(after: ArrivalResult, bench: &mut [u8], link: &mut [u8], answer: 
             ACCEPTED
         }
         Reply::Refused(r) => refusal_number(r),
+    }
+}
+
+// Bench and link are written only by an arrival that counts.
+fn put_arrival(after: ArrivalResult, bench: &mut [u8], link: &mut [u8])
+    requires { ⌜ (length (now bench) ≡ benchLength) × (length (now link) ≡ linkLength) ⌝ }
+    ensures { λ r. ⌜ (now (bench .exit) ≡ ifCounted (replyAnswer (after .reply)) (benchBytes (after .bench) (now (bench .entry))) (now (bench .entry)))
+        × (now (link .exit) ≡ ifCounted (replyAnswer (after .reply)) (linkBytes (after .link)) (now (link .entry))) ⌝ }
+{
+    let reply = after.reply;
+    match reply {
+        Reply::Done { number, total } => {
+            let next = after.bench;
+            let kept = after.link;
+            put_bench(next, bench);
+            put_link(kept, link);
+        }
+        Reply::Again { number, total } => {}
+        Reply::Refused(r) => {}
+    }
+}
+
+// The lanes that a preview shows are written over a copy of the bench; where the record would not count, they are the copy's own.
+fn put_preview(shown: PreviewResult, variant: u8, room: &mut [u8])
+    requires { ⌜ length (now room) ≡ benchLength ⌝ }
+    ensures { λ r. ⌜ now (room .exit) ≡ ifCounted (replyAnswer (shown .reply)) (benchBytes (record { variant = variant; slots = shown .slots }) (now (room .entry))) (now (room .entry)) ⌝ }
+{
+    let reply = shown.reply;
+    match reply {
+        Reply::Done { number, total } => {
+            let slots = shown.slots;
+            let next = Bench {
+                variant: variant,
+                slots: slots,
+            };
+            put_bench(next, room);
+        }
+        Reply::Again { number, total } => {}
+        Reply::Refused(r) => {}
     }
 }
 
@@ -127,7 +161,44 @@ pub fn arrive(bench: &mut [u8], link: &mut [u8], sent: &[u8], answer: &mut [u32]
         return refusal_number(Refusal::BadLength);
     }
     let after = bench_stepping::arrive_once(found, link_in(link), sent);
-    put_arrival(after, bench, link, answer)
+    let reply = after.reply;
+    put_arrival(after, bench, link);
+    put_reply(reply, answer)
+}
+
+// What a record would be answered, and, in the room, the memory of the bench that it would leave; the bench's own on every refusal.
+pub fn preview(
+    bench: &[u8],
+    link: &[u8],
+    sent: &[u8],
+    answer: &mut [u32],
+    room: &mut [u8],
+) -> u8
+    ensures { λ r. ⌜ (r ≡ statusOf (previewCall (now (bench .entry)) (now (link .entry)) (now (sent .entry)) (now (answer .entry)) (now (room .entry))))
+        × (now (answer .exit) ≡ previewedAnswer (now (bench .entry)) (now (link .entry)) (now (sent .entry)) (now (answer .entry)) (now (room .entry)))
+        × (now (room .exit) ≡ previewedRoom (now (bench .entry)) (now (link .entry)) (now (sent .entry)) (now (answer .entry)) (now (room .entry))) ⌝ }
+{
+    if bench.len() != BENCH_LENGTH {
+        return refusal_number(Refusal::BadLength);
+    }
+    put_copy(bench, room);
+    let found = bench_in(bench);
+    if bench_checks::bad_bench(found) {
+        return refusal_number(Refusal::BadVariant);
+    }
+    if link.len() != LINK_LENGTH {
+        return refusal_number(Refusal::BadLength);
+    }
+    if answer.len() != ARRIVAL_WORDS {
+        return refusal_number(Refusal::BadLength);
+    }
+    if room.len() != BENCH_LENGTH {
+        return refusal_number(Refusal::BadLength);
+    }
+    let shown = bench_stepping::preview(found, link_in(link), sent);
+    let reply = shown.reply;
+    put_preview(shown, found.variant, room);
+    put_reply(reply, answer)
 }
 
 // Reads a lane of any number.

@@ -18,7 +18,7 @@ use lanes::Direction;
 const ACCEPTED: u8 = 0;
 
 // The version of the calls: their parameters, numbers and layouts.
-const VERSION: u32 = 3;
+const VERSION: u32 = 4;
 
 // The answer of a call that gives one word.
 enum WordAnswer {

@@ -207,14 +207,24 @@ pub fn put_bench(bench: Bench, out: &mut [u8])
     }
 }
 
-fn put_record(bytes: [u8; LENGTH], out: &mut [u8])
-    requires { ⌜ length (now out) ≡ recordLength ⌝ }
-    ensures { λ r. ⌜ now (out .exit) ≡ bytes ⌝ }
+fn copy(bytes: &[u8], out: &mut [u8])
+    requires { ⌜ length (now out) ≡ length (now bytes) ⌝ }
+    ensures { λ r. ⌜ now (out .exit) ≡ now (bytes .entry) ⌝ }
 {
+    let end = bytes.len();
     let mut i: usize = 0;
-    while i < LENGTH {
+    while i < end {
         out[i] = bytes[i];
         i += 1;
+    }
+}
+
+// A copy of any bytes, into memory of as many.
+pub fn put_copy(bytes: &[u8], out: &mut [u8])
+    ensures { λ r. ⌜ now (out .exit) ≡ fitted (length (now (bytes .entry))) (now (bytes .entry)) (now (out .entry)) ⌝ }
+{
+    if out.len() == bytes.len() {
+        copy(bytes, out);
     }
 }
 
@@ -225,7 +235,7 @@ fn write_link(link: Link, out: &mut [u8])
     let sent = link.bytes;
     katan_numbers::put_number(link.last as u64, &mut out[LAST_AT..TOTAL_AT]);
     katan_numbers::put_number(link.total as u64, &mut out[TOTAL_AT..RECORD_AT]);
-    put_record(sent, &mut out[RECORD_AT..LINK_LENGTH]);
+    copy(&sent, &mut out[RECORD_AT..LINK_LENGTH]);
 }
 
 pub fn put_link(link: Link, out: &mut [u8])

@@ -1,17 +1,17 @@
--- THEOREMS: a driver's memory is opened as the fresh bench and link, and its arrivals and reads are those of a list.
+-- THEOREMS: a driver's memory is opened as the fresh bench and link, and its arrivals, reads and previews are those of a list.
 -- Assumes nothing.
 use mathlib.Core.Path.{_≡_, refl, sym, ap, _∙_}
-use mathlib.Core.Bool.{Bool, true, false}
+use mathlib.Core.Bool.{Bool, true, false, not}
 use mathlib.Core.List.{List, [], _∷_, _++_, map}
 use Prim.Native.Nat.{ℕ, zero, suc, _≤_}
 use native.Mathlib.Omega.{arith}
 use lib.ListN.{length, getD, replicate, length-replicate}
 use borrow.Author.Tests.{eq-eqb}
 use Rattle.katan.specs.Bit.{AreBytes}
-use Rattle.katan.specs.Checks.{Outcome, value, refused, sizeCheck}
+use Rattle.katan.specs.Checks.{Outcome, value, refused, checked, sizeCheck}
 use Rattle.katan.specs.Lent.{statusOf, lentAfter}
 use Rattle.katan.specs.Sizes.{laneCount}
-use Rattle.katan.proofs.Checked.{fault-first}
+use Rattle.katan.proofs.Checked.{fault-first, fault-later, checked-append}
 use Rattle.katan.proofs.Variants.{variant-sound}
 use Rattle.bench.specs.Calls.{Answer}
 use Rattle.bench_record.specs.Fields.{recordLength, decode}
@@ -19,11 +19,11 @@ use Rattle.bench_record.specs.Checks.{fieldChecks, laneCheck}
 use Rattle.bench.specs.Checks.{emptyLane, turnChecks, emptyCheck, arrivalChecks, readChecks, Turn, counts, repeats, turnOf, decision, laneAnswer, readOutcome}
 use Rattle.bench.specs.Bench.{emptySlot, freshBench, freshLink, slotView, benchView, countedEffect, effectAs, arriveOf, readOf}
 use Rattle.driver_layout.specs.Layout.{benchLength, linkLength, benchIn, linkIn, benchBytes, linkBytes}
-use Rattle.driver_bench.specs.Calls.{openCall, openedBench, openedLink, arrivalWords, readingWords, heldCheck, ifCounted, readCall, arriveEffect, arriveCall}
+use Rattle.driver_bench.specs.Calls.{openCall, openedBench, openedLink, arrivalWords, readingWords, heldCheck, ifCounted, readCall, arriveEffect, arriveChecks, arriveCall, previewCall}
 use Rattle.driver_layout.specs.ReadBack.{SlotsFit, BenchFits, LinkFits}
 use Rattle.driver_layout.proofs.ReadBack.{bench-read-back, link-read-back}
 use Rattle.driver_layout.proofs.Fits.{bench-in-fits, link-in-fits}
-use Rattle.driver_memory.specs.Follows.{EveryOpening, Arrives, EveryArrival, EveryRead}
+use Rattle.driver_memory.specs.Follows.{EveryOpening, Arrives, EveryArrival, EveryRead, EveryPreview}
 use Rattle.driver_memory.proofs.Fits.{effect-fits}
 
 -- ---- opening
@@ -120,3 +120,14 @@ same-read bench i answer n k false e = rw (eq-eqb _ _ n, e, eq-eqb _ _ k)
 
 pub every-read : EveryRead
 every-read bench i answer n k = same-read bench i answer n k (heldCheck (benchIn bench) .fault) refl
+
+-- ---- a preview
+
+pub every-preview : EveryPreview
+unfolding previewCall arriveCall
+every-preview bench link sent answer room n m =
+    let a = arriveEffect bench link sent answer .answer in
+    record {
+      same-call = checked-append (arriveChecks bench link sent answer) (sizeCheck benchLength room ∷ []) a ∙ ap (checked (arriveChecks bench link sent answer)) (fault-later (sizeCheck benchLength room) [] a (ap not (eq-eqb _ _ m)));
+      same-memory = rw (eq-eqb _ _ n, eq-eqb _ _ m);
+    }

@@ -1,4 +1,4 @@
--- Demand 3 in a driver's own memory: each call is a list's call on the state that the memory says.
+-- Demand 3 in a driver's own memory: each call is a list's call or preview on the state that the memory says.
 -- Assumes nothing.
 use mathlib.Core.Path.{_≡_, refl, ap, ap₂, _∙_}
 use mathlib.Core.List.{List, [], _∷_, map, zipWith}
@@ -9,16 +9,18 @@ use Rattle.katan.specs.Checks.{value, refused}
 use Rattle.bench.specs.declared.Bench.{Bench}
 use Rattle.bench.specs.declared.Link.{Link}
 use Rattle.bench.specs.Calls.{done, again, at, Answer, stateAfter, answersTo}
+use Rattle.bench.specs.Checks.{LaneView}
 use Rattle.bench.specs.Bench.{freshBench, freshLink, emptySlot, slotView, State, freshState, benchTransition}
-use Rattle.bench.proofs.Lists.{every-list}
+use Rattle.bench.specs.Preview.{previewOf, EventAnswer, answered, previewed, benchEvent}
+use Rattle.bench.proofs.Preview.{every-list-with-previews}
 use Rattle.driver_layout.specs.Layout.{benchLength, linkLength, benchIn, linkIn}
 use Rattle.driver_layout.specs.ReadBack.{BenchFits, LinkFits}
 use Rattle.driver_layout.proofs.ReadBack.{length-bench, length-link}
 use Rattle.driver_bench.specs.Calls.{arrivalWords, readingWords, ifCounted, arriveCall}
 use Rattle.driver_memory.specs.Follows.{Opens}
-use Rattle.driver_memory.specs.Memory.{Memory, openedMemory, DriverCall, arrive, read, lentFor, Returned, driverTransition, memoryAfter, returnsTo, WellLent, callOf, returnedAs, EveryListInMemory}
+use Rattle.driver_memory.specs.Memory.{Memory, openedMemory, DriverCall, arrive, read, preview, lentFor, lanesIn, Returned, driverTransition, WellLent, withoutPreviews, eventOf, returnedAs, EveryListInMemory}
 use Rattle.driver_memory.proofs.Fits.{effect-fits}
-use Rattle.driver_memory.proofs.Follows.{fresh-bench-fits, fresh-link-fits, opened-bench, opened-link, every-opening, arrives, every-read}
+use Rattle.driver_memory.proofs.Follows.{fresh-bench-fits, fresh-link-fits, opened-bench, opened-link, every-opening, arrives, every-read, every-preview}
 
 -- ---- what memory keeps to, call by call
 
@@ -35,13 +37,13 @@ record Sound (m : Memory) : Type 0 where
   bench-fits : BenchFits (benchIn (m .bench))
   link-fits : LinkFits (linkIn (m .link))
 
--- a call is a list's call on that state
+-- a call is a list's call or preview on that state
 record SameCall (m : Memory) (c : DriverCall) : Type 0 where
-  return : driverTransition m c .1 ≡ returnedAs (benchTransition (stateIn m) (callOf c) .1) (lentFor c)
-  state : stateIn (driverTransition m c .0) ≡ benchTransition (stateIn m) (callOf c) .0
+  return : driverTransition m c .1 ≡ returnedAs (benchEvent (stateIn m) (eventOf c) .1) (lentFor c)
+  state : stateIn (driverTransition m c .0) ≡ benchEvent (stateIn m) (eventOf c) .0
   next : Sound (driverTransition m c .0)
 
--- ---- an arrival and a read
+-- ---- an arrival, a read and a preview
 
 either-size : (n : ℕ) (a : Answer) (new old : List ℕ) → length new ≡ n → length old ≡ n → length (ifCounted a new old) ≡ n
 either-size n (value (done x t)) new old e f = e
@@ -51,13 +53,13 @@ either-size n (refused k) new old e f = f
 
 module _ (m : Memory) (k : Sound m) where
   same-arrival : (sent answer : List ℕ) → AreBytes sent → length answer ≡ arrivalWords → SameCall m (arrive sent answer)
-  unfolding driverTransition benchTransition
+  unfolding driverTransition benchEvent benchTransition
   same-arrival sent answer h n =
       let a = arrives (m .bench) (m .link) sent answer (k .bench-size) (k .link-size) n (k .bench-fits) (k .link-fits) h in
       let f = effect-fits (benchIn (m .bench)) (linkIn (m .link)) sent (k .bench-fits) (k .link-fits) h in
       let o = arriveCall (m .bench) (m .link) sent answer in
       record {
-        return = ap (λ (x : Answer). returnedAs x answer) (a .same-answer);
+        return = ap (λ (x : Answer). returnedAs (answered x) answer) (a .same-answer);
         state = ap₂ state-of (a .same-bench) (a .same-link);
         next =
             record {
@@ -69,30 +71,43 @@ module _ (m : Memory) (k : Sound m) where
       }
 
   same-read : (lane : ℕ) (answer : List ℕ) → length answer ≡ readingWords → SameCall m (read lane answer)
-  unfolding driverTransition benchTransition
+  unfolding driverTransition benchEvent benchTransition
   same-read lane answer n =
-      record { return = ap (λ (x : Answer). returnedAs x answer) (every-read (m .bench) lane answer (k .bench-size) n); state = refl; next = k }
+      record { return = ap (λ (x : Answer). returnedAs (answered x) answer) (every-read (m .bench) lane answer (k .bench-size) n); state = refl; next = k }
+
+  same-preview : (sent answer room : List ℕ) → AreBytes sent → length answer ≡ arrivalWords → length room ≡ benchLength → SameCall m (preview sent answer room)
+  unfolding driverTransition benchEvent previewOf
+  same-preview sent answer room h n z =
+      let a = arrives (m .bench) (m .link) sent answer (k .bench-size) (k .link-size) n (k .bench-fits) (k .link-fits) h in
+      let p = every-preview (m .bench) (m .link) sent answer room (k .bench-size) z in
+      record {
+        return =
+            ap₂ (λ (x : Answer) (lanes : List LaneView). returnedAs (previewed x lanes) answer) (p .same-call ∙ a .same-answer)
+            (ap lanesIn (p .same-memory) ∙ ap (λ (b : Bench). map slotView (b .slots)) (a .same-bench));
+        state = refl;
+        next = k;
+      }
 
 -- ---- a list of calls
 
 -- what the list's calls return, and leave, from a state
 abbrev returns-from : List DriverCall → State → List Returned
-returns-from calls x = zipWith returnedAs (answersTo benchTransition x (map callOf calls)) (map lentFor calls)
+returns-from calls x = zipWith returnedAs (answersTo benchEvent x (map eventOf calls)) (map lentFor calls)
 
 abbrev state-from : List DriverCall → State → State
-state-from calls x = stateAfter benchTransition x (map callOf calls)
+state-from calls x = stateAfter benchEvent x (map eventOf calls)
 
 record SameCalls (m : Memory) (calls : List DriverCall) : Type 0 where
-  returns : returnsTo m calls ≡ returns-from calls (stateIn m)
-  state : stateIn (memoryAfter m calls) ≡ state-from calls (stateIn m)
+  returns : answersTo driverTransition m calls ≡ returns-from calls (stateIn m)
+  state : stateIn (stateAfter driverTransition m calls) ≡ state-from calls (stateIn m)
 
 one-more : (m : Memory) (c : DriverCall) (calls : List DriverCall) → SameCall m c → SameCalls (driverTransition m c .0) calls → SameCalls m (c ∷ calls)
-unfolding memoryAfter returnsTo stateAfter answersTo zipWith
+unfolding stateAfter answersTo zipWith
 one-more m c calls a r =
     record { returns = ap₂ _∷_ (a .return) (r .returns ∙ ap (returns-from calls) (a .state)); state = r .state ∙ ap (state-from calls) (a .state) }
 
 same-calls : (m : Memory) → Sound m → (calls : List DriverCall) → WellLent calls → SameCalls m calls
-unfolding memoryAfter returnsTo stateAfter answersTo zipWith
+unfolding stateAfter answersTo zipWith
 same-calls m k [] w = record { returns = refl; state = refl }
 same-calls m k (arrive sent answer ∷ calls) w =
     let a = same-arrival m k sent answer (w .0) (w .1) in
@@ -100,6 +115,18 @@ same-calls m k (arrive sent answer ∷ calls) w =
 same-calls m k (read lane answer ∷ calls) w =
     let a = same-read m k lane answer (w .0) in
     one-more m (read lane answer) calls a (same-calls (driverTransition m (read lane answer) .0) (a .next) calls (w .1))
+
+same-calls m k (preview sent answer room ∷ calls) w =
+    let a = same-preview m k sent answer room (w .0) (w .1) (w .2) in
+    one-more m (preview sent answer room) calls a (same-calls (driverTransition m (preview sent answer room) .0) (a .next) calls (w .3))
+
+-- previews leave no trace
+left-out : (calls : List DriverCall) (m : Memory) → stateAfter driverTransition m calls ≡ stateAfter driverTransition m (withoutPreviews calls)
+unfolding stateAfter withoutPreviews driverTransition
+left-out [] m = refl
+left-out (arrive sent answer ∷ calls) m = left-out calls (driverTransition m (arrive sent answer) .0)
+left-out (read lane answer ∷ calls) m = left-out calls m
+left-out (preview sent answer room ∷ calls) m = left-out calls m
 
 -- ---- from opened memory
 
@@ -120,13 +147,16 @@ module _ (v : ℕ) (least : 1 ≤ v) (most : v ≤ 6) (before : Memory) (n : len
         link-fits = rw (opens .fresh-link) fresh-link-fits;
       }
 
--- THEOREM: every list of a driver's calls is answered as the reference model answers it, and leaves each lane in memory as its machine
+-- THEOREM: every list of a driver's calls, with previews among them, is answered as the reference model answers it, and leaves each lane in memory as its
+-- machine; previews leave no trace
 pub every-list-in-memory : EveryListInMemory
 every-list-in-memory v least most before n m calls w =
     let r = same-calls (openedMemory v before) (opened-sound v least most before n m) calls w in
-    let l = every-list v least most (map callOf calls) in
+    let l = every-list-with-previews v least most (map eventOf calls) in
     let fresh = opened-fresh v least most before n m in
+    let after = r .state ∙ ap (state-from calls) fresh ∙ l .same-state in
     record {
-      same-returns = r .returns ∙ ap (returns-from calls) fresh ∙ ap (λ (xs : List Answer). zipWith returnedAs xs (map lentFor calls)) (l .same-answers);
-      same-lanes = λ i lt. ap (λ (x : State). slotView (getD (x .bench .slots) i emptySlot)) (r .state ∙ ap (state-from calls) fresh) ∙ l .same-lanes i lt;
+      same-returns = r .returns ∙ ap (returns-from calls) fresh ∙ ap (λ (xs : List EventAnswer). zipWith returnedAs xs (map lentFor calls)) (l .same-answers);
+      same-lanes = λ i lt. ap (λ (x : State). slotView (getD (x .bench .slots) i emptySlot)) after ∙ l .without-previews .same-lanes i lt;
+      no-trace = left-out calls (openedMemory v before);
     }

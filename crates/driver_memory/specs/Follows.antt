@@ -1,6 +1,6 @@
 -- A driver's calls one by one, on memory of the right lengths: opening gives memory that says the fresh bench and link, whatever it held; an arrival, on
 -- memory of bytes, and a read find the state that the memory says, answer as the call of a list does (bench's `benchTransition`), and leave memory that
--- says the state that it leaves.
+-- says the state that it leaves; a preview is an arrival in a copy.
 -- Assumes nothing.
 use Prim.Native.Nat.{ℕ, _≤_}
 use mathlib.Core.Path.{_≡_}
@@ -10,7 +10,7 @@ use Rattle.katan.specs.Bit.{AreBytes}
 use Rattle.katan.specs.Lent.{statusOf}
 use Rattle.bench.specs.Bench.{freshBench, freshLink, readOf}
 use Rattle.driver_layout.specs.Layout.{benchLength, linkLength, benchIn, linkIn}
-use Rattle.driver_bench.specs.Calls.{openCall, openedBench, openedLink, arrivalWords, readingWords, readCall, arriveEffect, arriveCall, arrivedBench, arrivedLink}
+use Rattle.driver_bench.specs.Calls.{openCall, openedBench, openedLink, arrivalWords, readingWords, readCall, arriveEffect, arriveCall, arrivedBench, arrivedLink, previewCall, previewedRoom}
 
 pub record Opens (v : ℕ) (bench link : List ℕ) : Type 0 where
   pub accepted : statusOf (openCall v bench link) ≡ 0
@@ -34,3 +34,12 @@ EveryArrival =
 
 abbrev pub EveryRead : Type 0
 EveryRead = (bench : List ℕ) (i : ℕ) (answer : List ℕ) → length bench ≡ benchLength → length answer ≡ readingWords → readCall bench i answer ≡ readOf (benchIn bench) i
+
+-- the status and, with it, the answer are those of an arrival, and the room holds what it would leave in the bench's memory, whatever that status is
+pub record Previews (bench link sent answer room : List ℕ) : Type 0 where
+  pub same-call : previewCall bench link sent answer room ≡ arriveCall bench link sent answer
+  pub same-memory : previewedRoom bench link sent answer room ≡ arrivedBench bench link sent answer
+
+-- link and answer of any length
+abbrev pub EveryPreview : Type 0
+EveryPreview = (bench link sent answer room : List ℕ) → length bench ≡ benchLength → length room ≡ benchLength → Previews bench link sent answer room

@@ -1,5 +1,6 @@
 -- Demand 3 in a driver's own memory: a bench is opened in it, whatever it held, and a list of calls follows, each finding the memory that the last one
--- left. Every status and every word of an answer is the reference model's, and the lanes in memory are its machines.
+-- left, with previews anywhere among them. Every status, every word of an answer and every lane that a preview shows is the reference model's, and the
+-- lanes in memory are its machines.
 -- Assumes nothing.
 use Prim.Native.Nat.{ℕ, _<_, _≤_}
 use mathlib.Core.Path.{_≡_}
@@ -8,13 +9,14 @@ use lib.ListN.{length, getD}
 use Rattle.katan.specs.Bit.{AreBytes}
 use Rattle.katan.specs.Lent.{statusOf, lentAfter}
 use Rattle.katan.specs.Sizes.{laneCount}
-use Rattle.bench.specs.Calls.{Call, arrival, reading, Answer}
+use Rattle.bench.specs.Calls.{arrival, reading, stateAfter, answersTo}
 use Rattle.bench.specs.Checks.{LaneView}
 use Rattle.bench.specs.Model.{machineView}
 use Rattle.bench.specs.Bench.{emptySlot, slotView}
-use Rattle.bench.specs.Claim.{modelAnswers, machineAfter}
+use Rattle.bench.specs.Claim.{machineAfter}
+use Rattle.bench.specs.Preview.{Event, call, preview as previewEvent, EventAnswer, answered, previewed, callsOf, modelEventAnswers}
 use Rattle.driver_layout.specs.Layout.{benchLength, linkLength, benchIn}
-use Rattle.driver_bench.specs.Calls.{openedBench, openedLink, arrivalWords, readingWords, responseWords, readCall, arriveCall, arrivedBench, arrivedLink, arrivedAnswer}
+use Rattle.driver_bench.specs.Calls.{openedBench, openedLink, arrivalWords, readingWords, responseWords, readCall, arriveCall, arrivedBench, arrivedLink, arrivedAnswer, previewCall, previewedAnswer, previewedRoom}
 
 -- ---- a driver's memory, and its calls
 
@@ -27,56 +29,72 @@ pub record Memory : Type 0 where
 abbrev pub openedMemory : ℕ → Memory → Memory
 openedMemory v m = record { bench = openedBench v (m .bench) (m .link); link = openedLink v (m .bench) (m .link) }
 
--- a record of any length arrives, or a lane of any number is read; and what the memory lent for the answer holds
+-- a record of any length arrives or is previewed, or a lane of any number is read; and what the memory lent for the answer holds, and a preview's room
 pub data DriverCall : Type 0 where
   arrive : (sent answer : List ℕ) → DriverCall
   read : (lane : ℕ) (answer : List ℕ) → DriverCall
+  preview : (sent answer room : List ℕ) → DriverCall
 
 abbrev pub lentFor : DriverCall → List ℕ
 lentFor (arrive sent answer) = answer
 lentFor (read lane answer) = answer
+lentFor (preview sent answer room) = answer
 
--- the status that a call returns, and what the memory lent for the answer holds afterwards
+-- the lanes that the memory of a bench says
+abbrev pub lanesIn : List ℕ → List LaneView
+lanesIn bench = map slotView (benchIn bench .slots)
+
+-- the status that a call returns, what the memory lent for the answer holds afterwards, and the lanes that a preview's room then says
 pub record Returned : Type 0 where
   pub status : ℕ
   pub answer : List ℕ
+  pub shown : List LaneView
 
--- what a call leaves and returns, as the promises of `katan_arrive` and `katan_read` say; a read leaves the memory as it was
+-- what a call leaves and returns, as the promises of `katan_arrive`, `katan_read` and `katan_preview` say; the last two leave the memory as it was
 unfoldable pub driverTransition : Memory → DriverCall → Memory × Returned
 driverTransition m (arrive sent answer) = (
   record { bench = arrivedBench (m .bench) (m .link) sent answer; link = arrivedLink (m .bench) (m .link) sent answer },
-  record { status = statusOf (arriveCall (m .bench) (m .link) sent answer); answer = arrivedAnswer (m .bench) (m .link) sent answer },
+  record { status = statusOf (arriveCall (m .bench) (m .link) sent answer); answer = arrivedAnswer (m .bench) (m .link) sent answer; shown = [] },
 )
 driverTransition m (read lane answer) = (
   m,
-  record { status = statusOf (readCall (m .bench) lane answer); answer = lentAfter responseWords (readCall (m .bench) lane answer) answer },
+  record { status = statusOf (readCall (m .bench) lane answer); answer = lentAfter responseWords (readCall (m .bench) lane answer) answer; shown = [] },
+)
+driverTransition m (preview sent answer room) = (
+  m,
+  record {
+    status = statusOf (previewCall (m .bench) (m .link) sent answer room);
+    answer = previewedAnswer (m .bench) (m .link) sent answer room;
+    shown = lanesIn (previewedRoom (m .bench) (m .link) sent answer room);
+  },
 )
 
--- a list of calls, each finding the memory that the last one left
-unfoldable pub memoryAfter : Memory → List DriverCall → Memory
-memoryAfter m [] = m
-memoryAfter m (c ∷ cs) = memoryAfter (driverTransition m c .0) cs
-
-unfoldable pub returnsTo : Memory → List DriverCall → List Returned
-returnsTo m [] = []
-returnsTo m (c ∷ cs) = driverTransition m c .1 ∷ returnsTo (driverTransition m c .0) cs
-
--- each record is of bytes, and the memory lent for each answer has its words
+-- each record is of bytes, the memory lent for each answer has its words, and a room the bytes of a bench
 abbrev pub WellLent : List DriverCall → Type 0
 WellLent [] = Unit {0}
 WellLent (arrive sent answer ∷ cs) = AreBytes sent × (length answer ≡ arrivalWords) × WellLent cs
 WellLent (read lane answer ∷ cs) = (length answer ≡ readingWords) × WellLent cs
+WellLent (preview sent answer room ∷ cs) = AreBytes sent × (length answer ≡ arrivalWords) × (length room ≡ benchLength) × WellLent cs
+
+-- a list of calls with its previews left out
+unfoldable pub withoutPreviews : List DriverCall → List DriverCall
+withoutPreviews [] = []
+withoutPreviews (arrive sent answer ∷ cs) = arrive sent answer ∷ withoutPreviews cs
+withoutPreviews (read lane answer ∷ cs) = read lane answer ∷ withoutPreviews cs
+withoutPreviews (preview sent answer room ∷ cs) = withoutPreviews cs
 
 -- ---- the reference model's side
 
--- the call that the model is fed
-abbrev pub callOf : DriverCall → Call
-callOf (arrive sent answer) = arrival sent
-callOf (read lane answer) = reading lane
+-- the event that the model is fed
+abbrev pub eventOf : DriverCall → Event
+eventOf (arrive sent answer) = call (arrival sent)
+eventOf (read lane answer) = call (reading lane)
+eventOf (preview sent answer room) = previewEvent sent
 
 -- an answer as a driver gets it, over what the memory lent for it held
-abbrev pub returnedAs : Answer → List ℕ → Returned
-returnedAs a old = record { status = statusOf a; answer = lentAfter responseWords a old }
+abbrev pub returnedAs : EventAnswer → List ℕ → Returned
+returnedAs (answered a) old = record { status = statusOf a; answer = lentAfter responseWords a old; shown = [] }
+returnedAs (previewed a lanes) old = record { status = statusOf a; answer = lentAfter responseWords a old; shown = lanes }
 
 -- ---- the claim
 
@@ -84,12 +102,21 @@ returnedAs a old = record { status = statusOf a; answer = lentAfter responseWord
 abbrev pub laneInMemory : Memory → ℕ → LaneView
 laneInMemory m i = slotView (getD (benchIn (m .bench) .slots) i emptySlot)
 
--- of a list of calls, from memory that held anything before it was opened
+module _ (v : ℕ) (before : Memory) (calls : List DriverCall) where
+  -- after opening and a list of calls, from memory that held anything before
+  abbrev pub memoryAfter : Memory
+  memoryAfter = stateAfter driverTransition (openedMemory v before) calls
+
+  abbrev pub returned : List Returned
+  returned = answersTo driverTransition (openedMemory v before) calls
+
 pub record FollowsModelInMemory (v : ℕ) (before : Memory) (calls : List DriverCall) : Type 0 where
-  -- every status and every answer is the reference model's
-  pub same-returns : returnsTo (openedMemory v before) calls ≡ zipWith returnedAs (modelAnswers v (map callOf calls)) (map lentFor calls)
+  -- every status and every answer is the reference model's, and so is every lane that a preview shows
+  pub same-returns : returned v before calls ≡ zipWith returnedAs (modelEventAnswers v (map eventOf calls)) (map lentFor calls)
   -- each lane is empty exactly when its machine is, and otherwise has its position and registers
-  pub same-lanes : (i : ℕ) → i < laneCount → laneInMemory (memoryAfter (openedMemory v before) calls) i ≡ machineView v (machineAfter v (map callOf calls) i)
+  pub same-lanes : (i : ℕ) → i < laneCount → laneInMemory (memoryAfter v before calls) i ≡ machineView v (machineAfter v (callsOf (map eventOf calls)) i)
+  -- the memory is, byte for byte, that of the list with its previews left out
+  pub no-trace : memoryAfter v before calls ≡ memoryAfter v before (withoutPreviews calls)
 
 -- for every variant and every list
 abbrev pub EveryListInMemory : Type 0

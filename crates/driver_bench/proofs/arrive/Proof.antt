@@ -84,6 +84,9 @@ arrive-once-requires c κs = search needs
 put-arrival-requires : tie.Need-put-arrival-requires
 put-arrival-requires c κs = search needs
 
+put-reply-requires : tie.Need-put-reply-requires
+put-reply-requires c κs = search needs
+
 same-length-4 : tie.Need-same-length-4
 same-length-4 c = search needs
 
@@ -96,8 +99,9 @@ same-length-6 c = search needs
 returns-5 : tie.Need-returns-5
 unfolding arriveCall
 returns-5 c =
-    let p = c .before .before .before .before .before .before in
-    let s = p .before .before .before .before in
+    let w = c .before .before in
+    let p = w .before .before .before .before .before .before in
+    let s = p .before .before .before in
     let k = s .before in
     let h = k .before .before in
     let g = h .before in
@@ -107,7 +111,7 @@ returns-5 c =
     let a = e .before .before .before .before .before .args in
     rw (eq-eqb _ _ (e .if1 .left), held (a .bench .now) (b .bench-in .result) (e .if1 .left) (b .bench-in .ensures) (f .before .bad-bench .ensures) (f .if2 .left), eq-eqb _ _ (g .if3 .left), eq-eqb _ _ (h .if4 .left))
     (same-effect (a .bench .now) (a .link .now) (a .sent .now) (a .answer .now) (bench-read (a .bench .now) (b .bench-in .result) (e .if1 .left) (b .bench-in .ensures)) (k .link-in .ensures)
-    (s .arrive-once .result) (s .arrive-once .ensures) (p .put-arrival .ensures))
+    (s .arrive-once .result) (s .arrive-once .ensures) (w .put-reply .ensures .0, p .put-arrival .ensures .0, p .put-arrival .ensures .1, w .put-reply .ensures .1))
 
 pub arrive-spec : {M : Type 1} → statement M
 arrive-spec =
@@ -129,6 +133,7 @@ arrive-spec =
     link-in-requires
     arrive-once-requires
     put-arrival-requires
+    put-reply-requires
     same-length-4
     same-length-5
     same-length-6

@@ -1,6 +1,6 @@
 -- `driver_bench::put_arrival` meets its contract.
 -- Assumes nothing.
-use mathlib.Core.Path.{refl, _∙_}
+use mathlib.Core.Path.{_∙_}
 use Rattle.driver_layout.proofs.Fitted.{it-fits}
 use borrow.Author.Needs.{needs}
 use Rattle.driver_bench.proofs.put_arrival.Statement.{statement}
@@ -15,20 +15,11 @@ put-bench-requires c κs = search needs
 put-link-requires : tie.Need-put-link-requires
 put-link-requires c κs = search needs
 
-put-response-requires : tie.Need-put-response-requires
-put-response-requires c κs = search needs
-
 enum-known-reply-2 : tie.Need-enum-known-reply-2
 enum-known-reply-2 c = search needs
 
-put-response-requires-2 : tie.Need-put-response-requires-2
-put-response-requires-2 c κs = search needs
-
 enum-known-reply-3 : tie.Need-enum-known-reply-3
 enum-known-reply-3 c = search needs
-
-refusal-number-requires : tie.Need-refusal-number-requires
-refusal-number-requires c κs = search needs
 
 same-length : tie.Need-same-length
 same-length c = search needs
@@ -36,28 +27,19 @@ same-length c = search needs
 same-length-2 : tie.Need-same-length-2
 same-length-2 c = search needs
 
-same-length-3 : tie.Need-same-length-3
-same-length-3 c = search needs
-
 returns : tie.Need-returns
 returns c =
-    let a = c .before .before in
-    let l = a .before .before .before .before in
+    let l = c .before .before in
     let b = l .before .before .before .before in
-    let m = b .before .before .before .before in
-    let d = m .before .before .before .before .before .before in
-    rw (m .before .reply .given .1) (refl, b .put-bench .ensures ∙ it-fits _ _ (d .args .bench .now) (d .pre .0), l .put-link .ensures ∙ it-fits _ _ (d .args .link .now) (d .pre .1), a .put-response .ensures)
-
-same-length-4 : tie.Need-same-length-4
-same-length-4 c = search needs
+    let m = b .before .before .before .before .before in
+    let d = m .before .before .before .before in
+    rw (m .reply .given .1) (b .put-bench .ensures ∙ it-fits _ _ (d .args .bench .now) (d .pre .0), l .put-link .ensures ∙ it-fits _ _ (d .args .link .now) (d .pre .1))
 
 returns-2 : tie.Need-returns-2
-returns-2 c =
-    let a = c .before .before in
-    rw (a .before .before .before .reply2 .given .1) (refl, refl, refl, a .put-response2 .ensures)
+returns-2 c = search needs
 
 returns-3 : tie.Need-returns-3
-returns-3 c = rw (c .before .before .reply3 .given .1) (c .refusal-number .ensures, refl, refl, refl)
+returns-3 c = search needs
 
 pub put-arrival-spec : {M : Type 1} → statement M
 put-arrival-spec =
@@ -66,15 +48,10 @@ put-arrival-spec =
     enum-known-reply
     put-bench-requires
     put-link-requires
-    put-response-requires
     enum-known-reply-2
-    put-response-requires-2
     enum-known-reply-3
-    refusal-number-requires
     same-length
     same-length-2
-    same-length-3
     returns
-    same-length-4
     returns-2
     returns-3)

@@ -1,6 +1,6 @@
 -- `driver_layout::write_link` meets its contract.
 -- Assumes nothing.
-use mathlib.Core.Path.{ap, ap₂, _∙_}
+use mathlib.Core.Path.{_≡_, ap, ap₂, _∙_}
 use mathlib.Core.List.{List, _++_}
 use Prim.Native.Nat.{ℕ}
 use lib.ListN.{length}
@@ -43,17 +43,22 @@ part-put-number-end-2 c = search needs
 put-number-requires-2 : tie.Need-put-number-requires-2
 put-number-requires-2 c κs = search needs
 
-sub-put-record : tie.Need-sub-put-record
-sub-put-record c = search needs
+slice-aggregate-copy : tie.Need-slice-aggregate-copy
+slice-aggregate-copy c = search needs
 
-part-put-record-start : tie.Need-part-put-record-start
-part-put-record-start c = search needs
+sub-copy : tie.Need-sub-copy
+sub-copy c = search needs
 
-part-put-record-end : tie.Need-part-put-record-end
-part-put-record-end c = search needs
+part-copy-start : tie.Need-part-copy-start
+part-copy-start c = search needs
 
-put-record-requires : tie.Need-put-record-requires
-put-record-requires c κs = search needs
+part-copy-end : tie.Need-part-copy-end
+part-copy-end c = search needs
+
+copy-requires : tie.Need-copy-requires
+copy-requires c κs =
+    let n : length (c .before .before .before .before .before .before .before .before .before .before .before .before .before .before .args .link .bytes) ≡ recordLength = search needs in
+    search (needs, n)
 
 same-length : tie.Need-same-length
 same-length c = search needs
@@ -62,15 +67,15 @@ returns : tie.Need-returns
 unfolding linkBytes
 returns c =
     let r = c .before .before in
-    let t = r .before .before .before .before in
+    let t = r .before .before .before .before .before in
     let l = t .before .before .before .before .before in
     let d = l .before .before .before .before .before in
     let link = d .args .link in
     let last = in-bytes numberBytes (link .last) (l .put-number .ensures) (search needs) in
     let total = in-bytes numberBytes (link .total) (t .put-number2 .ensures) (search needs) in
-    three-parts numberBytes numberBytes recordLength (d .args .out .now) (l .put-number .last .1 .0) (t .put-number2 .last .1 .0) (r .put-record .last .1 .0) (d .pre)
+    three-parts numberBytes numberBytes recordLength (d .args .out .now) (l .put-number .last .1 .0) (t .put-number2 .last .1 .0) (r .copy .last .1 .0) (d .pre)
     (ap (λ (s : List ℕ). length s) last ∙ length-bytes numberBytes (link .last)) (ap (λ (s : List ℕ). length s) total ∙ length-bytes numberBytes (link .total))
-    ∙ ap₂ (λ (s t : List ℕ). s ++ t) (ap₂ (λ (s t : List ℕ). s ++ t) last total) (r .put-record .ensures)
+    ∙ ap₂ (λ (s t : List ℕ). s ++ t) (ap₂ (λ (s t : List ℕ). s ++ t) last total) (r .copy .ensures)
 
 pub write-link-spec : {M : Type 1} → statement M
 write-link-spec =
@@ -86,9 +91,10 @@ write-link-spec =
     part-put-number-start-2
     part-put-number-end-2
     put-number-requires-2
-    sub-put-record
-    part-put-record-start
-    part-put-record-end
-    put-record-requires
+    slice-aggregate-copy
+    sub-copy
+    part-copy-start
+    part-copy-end
+    copy-requires
     same-length
     returns)

@@ -1,4 +1,4 @@
--- `driver_layout::put_record` meets its contract.
+-- `driver_layout::copy` meets its contract.
 -- Assumes nothing.
 use mathlib.Core.Path.{_≡_, refl, sym, _∙_}
 use Prim.Native.Nat.{_-_, _≤_, _<_}
@@ -6,22 +6,20 @@ use native.Mathlib.Omega.{arith}
 use native.Mathlib.Numerals.{add-one}
 use lib.ListN.{length, take, getD, length-set}
 use lib.Seq.{take-suc, take-suc-set, take-all}
-use Rattle.bench_record.specs.Fields.{recordLength}
-use borrow.Author.Needs.{needs}
-use Rattle.driver_layout.proofs.put_record.Statement.{statement}
-use Rattle.driver_layout.proofs.put_record.Tie as tie
+use Rattle.driver_layout.proofs.copy.Statement.{statement}
+use Rattle.driver_layout.proofs.copy.Tie as tie
 
 abbrev Inv-loop : tie.InvT-loop
-Inv-loop out₀ bytes i₀ out i = ((i ≤ recordLength) × (length out ≡ recordLength) × (length bytes ≡ recordLength)) × (take i out ≡ take i bytes)
+Inv-loop bytes out₀ end i₀ out i = (i ≤ end) × (length out ≡ end) × (take i out ≡ take i bytes)
 
 abbrev μ-loop : tie.MeasureT-loop
-μ-loop out₀ bytes i₀ out i = recordLength - i
+μ-loop bytes out₀ end i₀ out i = end - i
 
 loop-holds : tie.Need-loop-holds Inv-loop μ-loop
-loop-holds c = ((omega arith, c .pre, search needs), refl)
+loop-holds c = (omega arith, c .pre, refl)
 
-array-read-out : tie.Need-array-read-out Inv-loop μ-loop
-array-read-out c = omega arith
+shared-slice-read-out : tie.Need-shared-slice-read-out Inv-loop μ-loop
+shared-slice-read-out c = omega arith
 
 slice-write-out : tie.Need-slice-write-out Inv-loop μ-loop
 slice-write-out c = omega arith
@@ -34,31 +32,31 @@ loop-less c = omega arith
 
 loop-again : tie.Need-loop-again Inv-loop μ-loop
 loop-again c =
-    let l = c .before .loop in
-    let bytes = c .before .before .args .t1 in
+    let l = c .before .before .loop in
+    let bytes = c .before .before .before .args .bytes .now in
     let hs : l .i < length bytes = omega arith in
     let ht : l .i < length (l .out) = omega arith in
-    ((omega arith, simp length-set (l .inv .0 .1), l .inv .0 .2), simp (add-one, take-suc-set (l .out) (l .i) (getD bytes (l .i) 0) ht, take-suc bytes (l .i) 0 hs, l .inv .1))
+    (omega arith, simp length-set (l .inv .1), simp (add-one, take-suc-set (l .out) (l .i) (getD bytes (l .i) 0) ht, take-suc bytes (l .i) 0 hs, l .inv .2))
 
 same-length : tie.Need-same-length Inv-loop μ-loop
-same-length c = c .before .loop .inv .0 .1 ∙ sym (c .before .before .pre)
+same-length c = c .before .loop .inv .1 ∙ sym (c .before .before .pre)
 
 returns : tie.Need-returns Inv-loop μ-loop
 returns c =
     let l = c .before .loop in
-    let bytes = c .before .before .args .t1 in
+    let bytes = c .before .before .args .bytes .now in
     let lt : length (l .out) ≤ l .i = omega arith in
     let ls : length bytes ≤ l .i = omega arith in
-    simp (take-all (l .i) (l .out) lt, take-all (l .i) bytes ls) at (l .inv .1)
+    simp (take-all (l .i) (l .out) lt, take-all (l .i) bytes ls) at (l .inv .2)
 
-pub put-record-spec : {M : Type 1} → statement M
-put-record-spec =
+pub copy-spec : {M : Type 1} → statement M
+copy-spec =
     tie.close
     (tie.spec
     Inv-loop
     μ-loop
     loop-holds
-    array-read-out
+    shared-slice-read-out
     slice-write-out
     add-i
     loop-less

@@ -1,0 +1,22 @@
+-- `bench_stepping::preview` meets its contract.
+-- Assumes nothing.
+use mathlib.Core.Path.{ap}
+use Rattle.bench.specs.Bench.{Effect}
+use Rattle.bench.specs.Preview.{Previewed, previewOf}
+use borrow.Author.Needs.{needs}
+use Rattle.bench_stepping.proofs.preview.Statement.{statement}
+use Rattle.bench_stepping.proofs.preview.Tie as tie
+
+arrive-once-requires : tie.Need-arrive-once-requires
+arrive-once-requires c κs = search needs
+
+-- of what an arrival leaves, the lanes
+abbrev shown : Effect → Previewed
+shown e = record { answer = e .answer; slots = e .bench .slots }
+
+returns : tie.Need-returns
+unfolding previewOf
+returns c = ap shown (c .before .before .arrive-once .ensures)
+
+pub preview-spec : {M : Type 1} → statement M
+preview-spec = tie.close (tie.spec arrive-once-requires returns)

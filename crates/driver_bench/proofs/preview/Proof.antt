@@ -1,0 +1,181 @@
+-- `driver_bench::preview` meets its contract.
+-- Assumes nothing.
+use mathlib.Core.Path.{refl, _∙_}
+use borrow.Author.Tests.{eq-eqb, ne-eqb}
+use Rattle.driver_layout.proofs.Fitted.{it-fits, no-fit, bench-read}
+use Rattle.driver_bench.specs.Calls.{arriveCall, previewCall}
+use Rattle.driver_bench.proofs.Held.{held}
+use Rattle.driver_bench.proofs.Previews.{copied, wrong-size, right-size, same-preview}
+use borrow.Author.Needs.{needs}
+use Rattle.driver_bench.proofs.preview.Statement.{statement}
+use Rattle.driver_bench.proofs.preview.Tie as tie
+
+refusal-number-requires : tie.Need-refusal-number-requires
+refusal-number-requires c κs = search needs
+
+returns : tie.Need-returns
+unfolding previewCall
+returns c = rw (ne-eqb _ _ (c .before .if1 .taken)) (c .refusal-number .ensures, refl, refl)
+
+put-copy-requires : tie.Need-put-copy-requires
+put-copy-requires c κs = search needs
+
+bench-in-requires : tie.Need-bench-in-requires
+bench-in-requires c κs = search needs
+
+bad-bench-requires : tie.Need-bad-bench-requires
+bad-bench-requires c κs = search needs
+
+refusal-number-requires-2 : tie.Need-refusal-number-requires-2
+refusal-number-requires-2 c κs = search needs
+
+same-length : tie.Need-same-length
+same-length c = search needs
+
+returns-2 : tie.Need-returns-2
+unfolding previewCall arriveCall
+returns-2 c =
+    let f = c .before in
+    let w = f .before in
+    let b = w .before in
+    let q = b .before .before .before in
+    let e = q .before .before in
+    let a = e .before .before .before .before .before .before .args in
+    let sized = e .if1 .left in
+    rw (eq-eqb _ _ sized, held (a .bench .now) (b .bench-in .result) sized (b .bench-in .ensures) (w .bad-bench .ensures) (f .if2 .taken))
+    (c .refusal-number2 .ensures, refl, copied (a .bench .now) (a .room .now) sized (q .put-copy .ensures))
+
+refusal-number-requires-3 : tie.Need-refusal-number-requires-3
+refusal-number-requires-3 c κs = search needs
+
+same-length-2 : tie.Need-same-length-2
+same-length-2 c = search needs
+
+returns-3 : tie.Need-returns-3
+unfolding previewCall arriveCall
+returns-3 c =
+    let g = c .before in
+    let f = g .before in
+    let w = f .before in
+    let b = w .before in
+    let q = b .before .before .before in
+    let e = q .before .before in
+    let a = e .before .before .before .before .before .before .args in
+    let sized = e .if1 .left in
+    rw (eq-eqb _ _ sized, held (a .bench .now) (b .bench-in .result) sized (b .bench-in .ensures) (w .bad-bench .ensures) (f .if2 .left), ne-eqb _ _ (g .if3 .taken))
+    (c .refusal-number3 .ensures, refl, copied (a .bench .now) (a .room .now) sized (q .put-copy .ensures))
+
+refusal-number-requires-4 : tie.Need-refusal-number-requires-4
+refusal-number-requires-4 c κs = search needs
+
+same-length-3 : tie.Need-same-length-3
+same-length-3 c = search needs
+
+returns-4 : tie.Need-returns-4
+unfolding previewCall arriveCall
+returns-4 c =
+    let h = c .before in
+    let g = h .before in
+    let f = g .before in
+    let w = f .before in
+    let b = w .before in
+    let q = b .before .before .before in
+    let e = q .before .before in
+    let a = e .before .before .before .before .before .before .args in
+    let sized = e .if1 .left in
+    rw (eq-eqb _ _ sized, held (a .bench .now) (b .bench-in .result) sized (b .bench-in .ensures) (w .bad-bench .ensures) (f .if2 .left), eq-eqb _ _ (g .if3 .left), ne-eqb _ _ (h .if4 .taken))
+    (c .refusal-number4 .ensures, refl, copied (a .bench .now) (a .room .now) sized (q .put-copy .ensures))
+
+refusal-number-requires-5 : tie.Need-refusal-number-requires-5
+refusal-number-requires-5 c κs = search needs
+
+same-length-4 : tie.Need-same-length-4
+same-length-4 c = search needs
+
+returns-5 : tie.Need-returns-5
+unfolding previewCall arriveCall
+returns-5 c =
+    let i = c .before in
+    let h = i .before in
+    let g = h .before in
+    let f = g .before in
+    let w = f .before in
+    let b = w .before in
+    let q = b .before .before .before in
+    let e = q .before .before in
+    let a = e .before .before .before .before .before .before .args in
+    let sized = e .if1 .left in
+    let wrong = wrong-size (a .bench .now) (a .room .now) (q .put-copy .ensures) (i .if5 .taken) in
+    rw (eq-eqb _ _ sized, held (a .bench .now) (b .bench-in .result) sized (b .bench-in .ensures) (w .bad-bench .ensures) (f .if2 .left), eq-eqb _ _ (g .if3 .left), eq-eqb _ _ (h .if4 .left), ne-eqb _ _ wrong)
+    (c .refusal-number5 .ensures, refl, copied (a .bench .now) (a .room .now) sized (q .put-copy .ensures) ∙ no-fit _ _ (a .room .now) wrong)
+
+link-in-requires : tie.Need-link-in-requires
+link-in-requires c κs = search needs
+
+preview-requires : tie.Need-preview-requires
+preview-requires c κs = search needs
+
+put-preview-requires : tie.Need-put-preview-requires
+put-preview-requires c κs = search needs
+
+put-reply-requires : tie.Need-put-reply-requires
+put-reply-requires c κs = search needs
+
+same-length-5 : tie.Need-same-length-5
+same-length-5 c = search needs
+
+same-length-6 : tie.Need-same-length-6
+same-length-6 c = search needs
+
+returns-6 : tie.Need-returns-6
+unfolding previewCall arriveCall
+returns-6 c =
+    let o = c .before .before in
+    let p = o .before .before .before .before in
+    let n = p .before .before in
+    let k = n .before in
+    let i = k .before in
+    let h = i .before in
+    let g = h .before in
+    let f = g .before in
+    let w = f .before in
+    let b = w .before in
+    let q = b .before .before .before in
+    let e = q .before .before in
+    let a = e .before .before .before .before .before .before .args in
+    let sized = e .if1 .left in
+    let fits = right-size (a .bench .now) (a .room .now) (q .put-copy .ensures) (i .if5 .left) in
+    let copy = copied (a .bench .now) (a .room .now) sized (q .put-copy .ensures) ∙ it-fits _ _ (a .room .now) fits in
+    let r = same-preview (a .bench .now) (a .link .now) (a .sent .now) (a .answer .now) (bench-read (a .bench .now) (b .bench-in .result) sized (b .bench-in .ensures)) (k .link-in .ensures) copy
+        (n .preview .result) (n .preview .ensures) (o .put-reply .ensures .0, p .put-preview .ensures, o .put-reply .ensures .1) in
+    rw (eq-eqb _ _ sized, held (a .bench .now) (b .bench-in .result) sized (b .bench-in .ensures) (w .bad-bench .ensures) (f .if2 .left), eq-eqb _ _ (g .if3 .left), eq-eqb _ _ (h .if4 .left), eq-eqb _ _ fits)
+    (r .0, r .2, r .1)
+
+pub preview-spec : {M : Type 1} → statement M
+preview-spec =
+    tie.close
+    (tie.spec
+    refusal-number-requires
+    returns
+    put-copy-requires
+    bench-in-requires
+    bad-bench-requires
+    refusal-number-requires-2
+    same-length
+    returns-2
+    refusal-number-requires-3
+    same-length-2
+    returns-3
+    refusal-number-requires-4
+    same-length-3
+    returns-4
+    refusal-number-requires-5
+    same-length-4
+    returns-5
+    link-in-requires
+    preview-requires
+    put-preview-requires
+    put-reply-requires
+    same-length-5
+    same-length-6
+    returns-6)

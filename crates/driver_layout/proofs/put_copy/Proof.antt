@@ -1,0 +1,25 @@
+-- `driver_layout::put_copy` meets its contract.
+-- Assumes nothing.
+use mathlib.Core.Path.{sym, _∙_}
+use Rattle.driver_layout.proofs.Fitted.{it-fits, no-fit}
+use borrow.Author.Needs.{needs}
+use Rattle.driver_layout.proofs.put_copy.Statement.{statement}
+use Rattle.driver_layout.proofs.put_copy.Tie as tie
+
+copy-requires : tie.Need-copy-requires
+copy-requires c κs = search needs
+
+same-length : tie.Need-same-length
+same-length c = search needs
+
+returns : tie.Need-returns
+returns c =
+    let w = c .before .before in
+    let i = w .before .before in
+    w .copy .ensures ∙ sym (it-fits _ _ (i .before .before .before .args .out .now) (i .if1 .taken))
+
+returns-2 : tie.Need-returns-2
+returns-2 c = sym (no-fit _ _ (c .before .before .before .args .out .now) (c .if1 .left))
+
+pub put-copy-spec : {M : Type 1} → statement M
+put-copy-spec = tie.close (tie.spec copy-requires same-length returns returns-2)
