@@ -21,7 +21,8 @@
  * wipe its stack, where copies of keys may stay.
  *
  * Stack. A call needs up to 42 kB, measured on x86-64 without what a dynamic linker takes: katan_keystream 42,
- * katan_encrypt_many and katan_decrypt_many 40, katan_replay 36, katan_arrive 28, katan_read 13, every other under 3.
+ * katan_encrypt_many and katan_decrypt_many 40, katan_replay 36, katan_preview 31, katan_arrive 28, katan_read 13,
+ * every other under 3.
  * The archive calls the C library's memcpy and memset.
  */
 #ifndef KATAN_BENCH_H
@@ -264,6 +265,9 @@ uint8_t katan_arrive(uint8_t *bench, size_t bench_length, uint8_t *link, size_t 
  * damaged bench, and also where link, answer or record has another length. Only where the bench or the room itself has
  * another length there is nothing to show, and nothing is written. Empty lanes are copied whole: the old key of a lane
  * that was cleared is in the room too.
+ *
+ * No link goes with the room: it is for looking at, also by katan_read. To commit, send the record to katan_arrive. With
+ * the room in the bench's place the link would not know the record, and it would be done twice.
  *
  * The status is katan_arrive's but for the room: one of another length gets 2, also where the record would count.
  * Checked: 2 of `bench`; 1; 2 of `link`, `answer`, `room` and `record`; 3 to 10.

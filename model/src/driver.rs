@@ -266,13 +266,13 @@ mod tests {
             let (status, answer, room) = shown(&bench, &link, &sent, BENCH_LENGTH);
             assert_eq!((status, answer), (0, [0, 4, count as u32]));
             assert!(room == expected, "{count}");
+            // The cleared lane's old key is shown too, and what no lane has ever held.
+            assert_eq!(
+                room[181..193],
+                [0, 3, 90, 90, 90, 90, 90, 90, 90, 90, 90, 90]
+            );
+            assert_eq!(room[21..25], [0, 0x77, 0x77, 0x77]);
         }
-        // The cleared lane's old key is shown too, and what no lane has ever held.
-        assert_eq!(
-            bench[181..193],
-            [0, 3, 90, 90, 90, 90, 90, 90, 90, 90, 90, 90]
-        );
-        assert_eq!(bench[21..25], [0, 0x77, 0x77, 0x77]);
     }
 
     /// A repeat and refused records show the bench's own bytes; so does a damaged bench.

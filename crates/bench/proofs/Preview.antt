@@ -1,19 +1,20 @@
 -- Lists with previews: each is the list without them, and a preview shows what the record would make of the reference model.
 -- Assumes nothing.
-use mathlib.Core.Path.{_≡_, refl, ap, ap₂}
-use mathlib.Core.List.{List, [], _∷_, map}
+use mathlib.Core.Path.{_≡_, refl, sym, ap, ap₂, _∙_}
+use mathlib.Core.List.{List, [], _∷_}
 use Prim.Native.Nat.{ℕ}
 use native.Mathlib.Omega.{arith}
+use lib.ListN.{getD}
 use Rattle.katan.specs.Checks.{Outcome, value, refused}
 use Rattle.bench.specs.declared.Bench.{Bench}
 use Rattle.bench.specs.declared.Link.{Link}
 use Rattle.bench.specs.Calls.{arrival, done, again, Answer, stateAfter, answersTo}
 use Rattle.bench.specs.Checks.{LaneView, Turn, counts, repeats, decision}
 use Rattle.bench.specs.Model.{Model, freshModel, modelTransition}
-use Rattle.bench.specs.Bench.{benchView, Effect, countedEffect, effectAs, arriveOf, State, freshState, benchTransition}
-use Rattle.bench.specs.Preview.{previewOf, EveryPreview, Event, call, preview, EventAnswer, answered, previewed, benchEvent, modelEvent, callsOf, answersOf, EveryListWithPreviews}
+use Rattle.bench.specs.Bench.{emptySlot, slotView, benchView, Effect, countedEffect, effectAs, arriveOf, State, freshState, benchTransition}
+use Rattle.bench.specs.Preview.{previewOf, EveryOwnLanes, Event, call, preview, answered, previewed, benchEvent, modelEvent, callsOf, answersOf, EveryListWithPreviews, TwoListsWithPreviews, Demand3WithPreviews}
 use Rattle.bench.proofs.Follow.{same-views}
-use Rattle.bench.proofs.Lists.{Keeps, Agree, same-call, fresh-keeps, every-list}
+use Rattle.bench.proofs.Lists.{Keeps, same-call, fresh-keeps, every-list, two-lists}
 
 -- ---- a preview that does not count shows the bench's own lanes
 
@@ -36,9 +37,9 @@ module _ (b : Bench) (l : Link) (s : List ℕ) where
   own (refused j) = (λ k e. refl, λ n t e. refl)
 
 -- THEOREM: a refused record and a repeat show the bench's own lanes, whatever bench and link are
-pub every-preview : EveryPreview
+pub every-own-lanes : EveryOwnLanes
 unfolding previewOf arriveOf
-every-preview b l s = let p = own b l s (decision (benchView b l) s) in record { of-refused = p .0; of-repeat = p .1 }
+every-own-lanes b l s = let p = own b l s (decision (benchView b l) s) in record { of-refused = p .0; of-repeat = p .1 }
 
 -- ---- lists with previews
 
@@ -83,3 +84,15 @@ every-list-with-previews v least most events =
       same-model = model-calls v events freshModel;
       without-previews = every-list v least most (callsOf events);
     }
+
+-- THEOREM: two lists, whatever previews stand in either
+pub two-lists-with-previews : TwoListsWithPreviews
+two-lists-with-previews v least most events others i lt same =
+    let lane : State → LaneView = λ x. slotView (getD (x .bench .slots) i emptySlot) in
+    ap lane (bench-calls v events (freshState v) .1)
+    ∙ two-lists v least most (callsOf events) (callsOf others) i lt same
+    ∙ sym (ap lane (bench-calls v others (freshState v) .1))
+
+-- THEOREM: demand 3 with previews
+pub demand-3-with-previews : Demand3WithPreviews
+demand-3-with-previews = record { one-list = every-list-with-previews; two-lists = two-lists-with-previews }

@@ -5,7 +5,7 @@ use Rattle.bench.specs.declared.Link.{Link}
 use Rattle.bench.specs.declared.ArrivalResult.{ArrivalResult}
 use Rattle.bench.specs.declared.LentArrivalResult.{LentArrivalResult}
 use Rattle.bench.specs.Bench.{replyAnswer}
-use Rattle.bench.specs.Preview.{Previewed}
+use Rattle.bench.specs.Preview.{PreviewEffect}
 use Rattle.bench_stepping.specs.declared.OpenAnswer.{OpenAnswer}
 use Rattle.bench_stepping.specs.declared.OpenAnswer.the-variants.{Opened, Refused as OpenRefused}
 use Rattle.bench_stepping.specs.declared.PreviewResult.{PreviewResult}
@@ -19,5 +19,5 @@ abbrev pub leaving : LentArrivalResult → Link → ArrivalResult
 leaving a l = record { bench = a .bench; link = l; reply = a .reply }
 
 -- what a preview gives
-abbrev pub previewedBy : PreviewResult → Previewed
+abbrev pub previewedBy : PreviewResult → PreviewEffect
 previewedBy p = record { answer = replyAnswer (p .reply); slots = p .slots }

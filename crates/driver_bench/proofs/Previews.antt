@@ -16,7 +16,7 @@ use Rattle.bench.specs.declared.Link.{Link}
 use Rattle.bench.specs.Calls.{Answer}
 use Rattle.bench.specs.Checks.{Turn, counts, repeats, decision}
 use Rattle.bench.specs.Bench.{replyAnswer, benchView, Effect, countedEffect, effectAs, arriveOf}
-use Rattle.bench.specs.Preview.{Previewed, previewOf}
+use Rattle.bench.specs.Preview.{PreviewEffect, previewOf}
 use Rattle.bench_stepping.specs.declared.PreviewResult.{PreviewResult}
 use Rattle.bench_stepping.specs.Answers.{previewedBy}
 use Rattle.driver_layout.specs.Layout.{benchLength, benchIn, linkIn, benchBytes, fitted}
@@ -67,9 +67,9 @@ pub same-preview : (bench link sent answer : List ℕ) {b : Bench} {l : Link} {c
     → let e = arriveEffect bench link sent answer in Shows answer (e .answer) (e .bench) bench r newroom newanswer
 unfolding previewOf
 same-preview bench link sent answer {b} {l} {copy} {newroom} {newanswer} {r} isb isl isc p e g =
-    let own : with-slots b (p .slots) ≡ arriveOf b l sent .bench = ap (λ (x : Previewed). with-slots b (x .slots)) e ∙ same-variant b l sent in
+    let own : with-slots b (p .slots) ≡ arriveOf b l sent .bench = ap (λ (x : PreviewEffect). with-slots b (x .slots)) e ∙ same-variant b l sent in
     let same : arriveOf b l sent ≡ arriveEffect bench link sent answer = ap₂ (λ (x : Bench) (y : Link). arriveOf x y sent) isb isl in
-    let is-answer : replyAnswer (p .reply) ≡ arriveEffect bench link sent answer .answer = ap (λ (x : Previewed). x .answer) e ∙ ap (λ (x : Effect). x .answer) same in
+    let is-answer : replyAnswer (p .reply) ≡ arriveEffect bench link sent answer .answer = ap (λ (x : PreviewEffect). x .answer) e ∙ ap (λ (x : Effect). x .answer) same in
     let is-bench : with-slots b (p .slots) ≡ arriveEffect bench link sent answer .bench = own ∙ ap (λ (x : Effect). x .bench) same in
     subst (λ (a : Answer). Shows answer a (arriveEffect bench link sent answer .bench) bench r newroom newanswer) is-answer
     (subst (λ (x : Bench). Shows answer (replyAnswer (p .reply)) x bench r newroom newanswer) is-bench

@@ -166,14 +166,9 @@ pub fn arrive(bench: &mut [u8], link: &mut [u8], sent: &[u8], answer: &mut [u32]
     put_reply(reply, answer)
 }
 
-// What a record would be answered, and, in the room, the memory of the bench that it would leave; the bench's own on every refusal.
-pub fn preview(
-    bench: &[u8],
-    link: &[u8],
-    sent: &[u8],
-    answer: &mut [u32],
-    room: &mut [u8],
-) -> u8
+// What a record would be answered, and, in the room, the memory of the bench that it would leave: on a refusal the bench's own, but for 2 of bench or
+// room, which leaves the room alone.
+pub fn preview(bench: &[u8], link: &[u8], sent: &[u8], answer: &mut [u32], room: &mut [u8]) -> u8
     ensures { λ r. ⌜ (r ≡ statusOf (previewCall (now (bench .entry)) (now (link .entry)) (now (sent .entry)) (now (answer .entry)) (now (room .entry))))
         × (now (answer .exit) ≡ previewedAnswer (now (bench .entry)) (now (link .entry)) (now (sent .entry)) (now (answer .entry)) (now (room .entry)))
         × (now (room .exit) ≡ previewedRoom (now (bench .entry)) (now (link .entry)) (now (sent .entry)) (now (answer .entry)) (now (room .entry))) ⌝ }

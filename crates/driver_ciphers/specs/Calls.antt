@@ -6,7 +6,7 @@ use Rattle.katan.specs.Checks.{Outcome, checked, variantCheck, sizeCheck}
 use Rattle.katan_cipher.specs.Answers.{encryptAnswer, decryptAnswer}
 use Rattle.katan_rate.specs.Rate.{rateAnswer}
 
--- the version of the driver's calls: it rises with every change of a call's parameters, its numbers or a layout
+-- the version of the driver's calls: it rises with every new call, and with every change of a call's parameters, its numbers or a layout
 abbrev pub interfaceVersion : ℕ
 interfaceVersion = 4
 

@@ -5,7 +5,6 @@ ghost use mathlib.Core.List.{[], _∷_};
 ghost use lib.ListN.{length};
 ghost use Rattle.katan.specs.Key.{keyNumber};
 ghost use Rattle.katan.specs.Sizes.{keyBytes};
-ghost use Rattle.bench_record.specs.Fields.{recordLength};
 ghost use Rattle.katan.specs.Bit.{bytesOf};
 ghost use Rattle.driver_layout.specs.Layout.{keyStart, laneLength, benchLength, linkLength, loadedState, positionIn, loadedIn, laneIn, benchIn, linkIn, readAs, loadedBytes, laneBytes, benchBytes, linkBytes, fitted};
 use bench::Bench;

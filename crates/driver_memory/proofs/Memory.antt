@@ -18,7 +18,7 @@ use Rattle.driver_layout.specs.ReadBack.{BenchFits, LinkFits}
 use Rattle.driver_layout.proofs.ReadBack.{length-bench, length-link}
 use Rattle.driver_bench.specs.Calls.{arrivalWords, readingWords, ifCounted, arriveCall}
 use Rattle.driver_memory.specs.Follows.{Opens}
-use Rattle.driver_memory.specs.Memory.{Memory, openedMemory, DriverCall, arrive, read, preview, lentFor, lanesIn, Returned, driverTransition, WellLent, withoutPreviews, eventOf, returnedAs, EveryListInMemory}
+use Rattle.driver_memory.specs.Memory.{Memory, openedMemory, DriverCall, arrive, read, preview, lentFor, lanesIn, Returned, driverTransition, WellLent, withoutPreviews, withoutShown, eventOf, returnedAs, EveryListInMemory}
 use Rattle.driver_memory.proofs.Fits.{effect-fits}
 use Rattle.driver_memory.proofs.Follows.{fresh-bench-fits, fresh-link-fits, opened-bench, opened-link, every-opening, arrives, every-read, every-preview}
 
@@ -115,18 +115,26 @@ same-calls m k (arrive sent answer ∷ calls) w =
 same-calls m k (read lane answer ∷ calls) w =
     let a = same-read m k lane answer (w .0) in
     one-more m (read lane answer) calls a (same-calls (driverTransition m (read lane answer) .0) (a .next) calls (w .1))
-
 same-calls m k (preview sent answer room ∷ calls) w =
     let a = same-preview m k sent answer room (w .0) (w .1) (w .2) in
     one-more m (preview sent answer room) calls a (same-calls (driverTransition m (preview sent answer room) .0) (a .next) calls (w .3))
 
--- previews leave no trace
-left-out : (calls : List DriverCall) (m : Memory) → stateAfter driverTransition m calls ≡ stateAfter driverTransition m (withoutPreviews calls)
-unfolding stateAfter withoutPreviews driverTransition
-left-out [] m = refl
-left-out (arrive sent answer ∷ calls) m = left-out calls (driverTransition m (arrive sent answer) .0)
-left-out (read lane answer ∷ calls) m = left-out calls m
-left-out (preview sent answer room ∷ calls) m = left-out calls m
+-- ---- previews left out
+
+left-out : (calls : List DriverCall) (m : Memory)
+    → (withoutShown (answersTo driverTransition m calls) ≡ answersTo driverTransition m (withoutPreviews calls))
+    × (stateAfter driverTransition m calls ≡ stateAfter driverTransition m (withoutPreviews calls))
+unfolding answersTo stateAfter withoutPreviews withoutShown driverTransition
+left-out [] m = (refl, refl)
+left-out (arrive sent answer ∷ calls) m =
+    let r = left-out calls (driverTransition m (arrive sent answer) .0) in
+    (ap (λ (rs : List Returned). driverTransition m (arrive sent answer) .1 ∷ rs) (r .0), r .1)
+left-out (read lane answer ∷ calls) m =
+    let r = left-out calls m in
+    (ap (λ (rs : List Returned). driverTransition m (read lane answer) .1 ∷ rs) (r .0), r .1)
+left-out (preview sent answer room ∷ calls) m =
+    let r = left-out calls m in
+    (r .0, r .1)
 
 -- ---- from opened memory
 
@@ -148,15 +156,17 @@ module _ (v : ℕ) (least : 1 ≤ v) (most : v ≤ 6) (before : Memory) (n : len
       }
 
 -- THEOREM: every list of a driver's calls, with previews among them, is answered as the reference model answers it, and leaves each lane in memory as its
--- machine; previews leave no trace
+-- machine; what its other calls return and the memory it leaves are those of the list without the previews
 pub every-list-in-memory : EveryListInMemory
 every-list-in-memory v least most before n m calls w =
     let r = same-calls (openedMemory v before) (opened-sound v least most before n m) calls w in
     let l = every-list-with-previews v least most (map eventOf calls) in
     let fresh = opened-fresh v least most before n m in
+    let without = left-out calls (openedMemory v before) in
     let after = r .state ∙ ap (state-from calls) fresh ∙ l .same-state in
     record {
       same-returns = r .returns ∙ ap (returns-from calls) fresh ∙ ap (λ (xs : List EventAnswer). zipWith returnedAs xs (map lentFor calls)) (l .same-answers);
       same-lanes = λ i lt. ap (λ (x : State). slotView (getD (x .bench .slots) i emptySlot)) after ∙ l .without-previews .same-lanes i lt;
-      no-trace = left-out calls (openedMemory v before);
+      same-calls = without .0;
+      same-memory = without .1;
     }

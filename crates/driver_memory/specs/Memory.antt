@@ -44,29 +44,27 @@ lentFor (preview sent answer room) = answer
 abbrev pub lanesIn : List ℕ → List LaneView
 lanesIn bench = map slotView (benchIn bench .slots)
 
--- the status that a call returns, what the memory lent for the answer holds afterwards, and the lanes that a preview's room then says
-pub record Returned : Type 0 where
-  pub status : ℕ
-  pub answer : List ℕ
-  pub shown : List LaneView
+-- the status that a call returns, and what the memory lent for the answer holds afterwards; of a preview also the lanes that its room then says
+pub data Returned : Type 0 where
+  returned : (status : ℕ) (answer : List ℕ) → Returned
+  shown : (status : ℕ) (answer : List ℕ) (lanes : List LaneView) → Returned
 
--- what a call leaves and returns, as the promises of `katan_arrive`, `katan_read` and `katan_preview` say; the last two leave the memory as it was
+-- what a call leaves and returns, as the promises of `katan_arrive`, `katan_read` and `katan_preview` say; the last two are lent the memory to read only
 unfoldable pub driverTransition : Memory → DriverCall → Memory × Returned
 driverTransition m (arrive sent answer) = (
   record { bench = arrivedBench (m .bench) (m .link) sent answer; link = arrivedLink (m .bench) (m .link) sent answer },
-  record { status = statusOf (arriveCall (m .bench) (m .link) sent answer); answer = arrivedAnswer (m .bench) (m .link) sent answer; shown = [] },
+  returned (statusOf (arriveCall (m .bench) (m .link) sent answer)) (arrivedAnswer (m .bench) (m .link) sent answer),
 )
 driverTransition m (read lane answer) = (
   m,
-  record { status = statusOf (readCall (m .bench) lane answer); answer = lentAfter responseWords (readCall (m .bench) lane answer) answer; shown = [] },
+  returned (statusOf (readCall (m .bench) lane answer)) (lentAfter responseWords (readCall (m .bench) lane answer) answer),
 )
 driverTransition m (preview sent answer room) = (
   m,
-  record {
-    status = statusOf (previewCall (m .bench) (m .link) sent answer room);
-    answer = previewedAnswer (m .bench) (m .link) sent answer room;
-    shown = lanesIn (previewedRoom (m .bench) (m .link) sent answer room);
-  },
+  shown
+      (statusOf (previewCall (m .bench) (m .link) sent answer room))
+      (previewedAnswer (m .bench) (m .link) sent answer room)
+      (lanesIn (previewedRoom (m .bench) (m .link) sent answer room)),
 )
 
 -- each record is of bytes, the memory lent for each answer has its words, and a room the bytes of a bench
@@ -76,12 +74,17 @@ WellLent (arrive sent answer ∷ cs) = AreBytes sent × (length answer ≡ arriv
 WellLent (read lane answer ∷ cs) = (length answer ≡ readingWords) × WellLent cs
 WellLent (preview sent answer room ∷ cs) = AreBytes sent × (length answer ≡ arrivalWords) × (length room ≡ benchLength) × WellLent cs
 
--- a list of calls with its previews left out
+-- a list of calls with its previews left out, and what its other calls return
 unfoldable pub withoutPreviews : List DriverCall → List DriverCall
 withoutPreviews [] = []
 withoutPreviews (arrive sent answer ∷ cs) = arrive sent answer ∷ withoutPreviews cs
 withoutPreviews (read lane answer ∷ cs) = read lane answer ∷ withoutPreviews cs
 withoutPreviews (preview sent answer room ∷ cs) = withoutPreviews cs
+
+unfoldable pub withoutShown : List Returned → List Returned
+withoutShown [] = []
+withoutShown (returned status answer ∷ rs) = returned status answer ∷ withoutShown rs
+withoutShown (shown status answer lanes ∷ rs) = withoutShown rs
 
 -- ---- the reference model's side
 
@@ -93,8 +96,8 @@ eventOf (preview sent answer room) = previewEvent sent
 
 -- an answer as a driver gets it, over what the memory lent for it held
 abbrev pub returnedAs : EventAnswer → List ℕ → Returned
-returnedAs (answered a) old = record { status = statusOf a; answer = lentAfter responseWords a old; shown = [] }
-returnedAs (previewed a lanes) old = record { status = statusOf a; answer = lentAfter responseWords a old; shown = lanes }
+returnedAs (answered a) old = returned (statusOf a) (lentAfter responseWords a old)
+returnedAs (previewed a lanes) old = shown (statusOf a) (lentAfter responseWords a old) lanes
 
 -- ---- the claim
 
@@ -107,16 +110,17 @@ module _ (v : ℕ) (before : Memory) (calls : List DriverCall) where
   abbrev pub memoryAfter : Memory
   memoryAfter = stateAfter driverTransition (openedMemory v before) calls
 
-  abbrev pub returned : List Returned
-  returned = answersTo driverTransition (openedMemory v before) calls
+  abbrev pub returns : List Returned
+  returns = answersTo driverTransition (openedMemory v before) calls
 
 pub record FollowsModelInMemory (v : ℕ) (before : Memory) (calls : List DriverCall) : Type 0 where
   -- every status and every answer is the reference model's, and so is every lane that a preview shows
-  pub same-returns : returned v before calls ≡ zipWith returnedAs (modelEventAnswers v (map eventOf calls)) (map lentFor calls)
+  pub same-returns : returns v before calls ≡ zipWith returnedAs (modelEventAnswers v (map eventOf calls)) (map lentFor calls)
   -- each lane is empty exactly when its machine is, and otherwise has its position and registers
   pub same-lanes : (i : ℕ) → i < laneCount → laneInMemory (memoryAfter v before calls) i ≡ machineView v (machineAfter v (callsOf (map eventOf calls)) i)
-  -- the memory is, byte for byte, that of the list with its previews left out
-  pub no-trace : memoryAfter v before calls ≡ memoryAfter v before (withoutPreviews calls)
+  -- what the other calls return, and the memory byte for byte, are those of the list with its previews left out
+  pub same-calls : withoutShown (returns v before calls) ≡ returns v before (withoutPreviews calls)
+  pub same-memory : memoryAfter v before calls ≡ memoryAfter v before (withoutPreviews calls)
 
 -- for every variant and every list
 abbrev pub EveryListInMemory : Type 0

@@ -243,8 +243,8 @@ pub enum Lane {
     Empty,
     /// Its position and registers. On a bench that is refused as damaged they may be too large.
     Loaded(Reading),
-    /// Its state is neither empty nor loaded.
-    Damaged,
+    /// Its state is neither: only so on a bench that is refused as damaged.
+    OtherState,
 }
 
 impl Lane {
@@ -255,7 +255,7 @@ impl Lane {
                 position: bytes[1],
                 registers: u64::from_le_bytes(bytes[12..].try_into().unwrap()),
             }),
-            _ => Lane::Damaged,
+            _ => Lane::OtherState,
         }
     }
 }

@@ -155,7 +155,7 @@ fn lanes_as_they_are() {
                 _ => {}
             }
             let expected = match i {
-                7 => Lane::Damaged,
+                7 => Lane::OtherState,
                 63 => Lane::Empty,
                 _ => Lane::Loaded(reading),
             };

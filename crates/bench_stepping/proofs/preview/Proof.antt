@@ -2,7 +2,7 @@
 -- Assumes nothing.
 use mathlib.Core.Path.{ap}
 use Rattle.bench.specs.Bench.{Effect}
-use Rattle.bench.specs.Preview.{Previewed, previewOf}
+use Rattle.bench.specs.Preview.{PreviewEffect, previewOf}
 use borrow.Author.Needs.{needs}
 use Rattle.bench_stepping.proofs.preview.Statement.{statement}
 use Rattle.bench_stepping.proofs.preview.Tie as tie
@@ -11,7 +11,7 @@ arrive-once-requires : tie.Need-arrive-once-requires
 arrive-once-requires c κs = search needs
 
 -- of what an arrival leaves, the lanes
-abbrev shown : Effect → Previewed
+abbrev shown : Effect → PreviewEffect
 shown e = record { answer = e .answer; slots = e .bench .slots }
 
 returns : tie.Need-returns

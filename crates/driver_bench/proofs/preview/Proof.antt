@@ -1,9 +1,14 @@
 -- `driver_bench::preview` meets its contract.
 -- Assumes nothing.
-use mathlib.Core.Path.{refl, _∙_}
+use mathlib.Core.Path.{_≡_, refl, _∙_}
+use mathlib.Core.Bool.{Bool}
+use mathlib.Core.List.{List}
+use Prim.Native.Nat.{ℕ}
+use lib.ListN.{length}
 use borrow.Author.Tests.{eq-eqb, ne-eqb}
+use Rattle.driver_layout.specs.Layout.{benchLength, benchIn, fitted}
 use Rattle.driver_layout.proofs.Fitted.{it-fits, no-fit, bench-read}
-use Rattle.driver_bench.specs.Calls.{arriveCall, previewCall}
+use Rattle.driver_bench.specs.Calls.{heldCheck, arriveCall, previewCall}
 use Rattle.driver_bench.proofs.Held.{held}
 use Rattle.driver_bench.proofs.Previews.{copied, wrong-size, right-size, same-preview}
 use borrow.Author.Needs.{needs}
@@ -32,18 +37,33 @@ refusal-number-requires-2 c κs = search needs
 same-length : tie.Need-same-length
 same-length c = search needs
 
+-- where the bench has been looked at: what was lent, the copy, and what was found
+module _ (w : tie.After-bad-bench) where
+  abbrev copying : tie.After-put-copy
+  copying = w .before .before .before .before
+
+  abbrev start : tie.Start
+  start = copying .before .before .before .before .before .before .before .before
+
+  sized : length (start .args .bench .now) ≡ benchLength
+  sized = copying .before .before .if1 .left
+
+  bench-found : w .before .bench-in .result ≡ benchIn (start .args .bench .now)
+  bench-found = bench-read (start .args .bench .now) (w .before .bench-in .result) sized (w .before .bench-in .ensures)
+
+  looked-at : {x : Bool} → w .bad-bench .result ≡ x → heldCheck (benchIn (start .args .bench .now)) .fault ≡ x
+  looked-at e = held (start .args .bench .now) (w .before .bench-in .result) sized (w .before .bench-in .ensures) (w .bad-bench .ensures) e
+
+  room-after : {new : List ℕ} → new ≡ fitted (length (start .args .bench .now)) (start .args .bench .now) (start .args .room .now) → new ≡ fitted benchLength (start .args .bench .now) (start .args .room .now)
+  room-after e = copied (start .args .bench .now) (start .args .room .now) sized e
+
 returns-2 : tie.Need-returns-2
 unfolding previewCall arriveCall
 returns-2 c =
     let f = c .before in
     let w = f .before in
-    let b = w .before in
-    let q = b .before .before .before in
-    let e = q .before .before in
-    let a = e .before .before .before .before .before .before .args in
-    let sized = e .if1 .left in
-    rw (eq-eqb _ _ sized, held (a .bench .now) (b .bench-in .result) sized (b .bench-in .ensures) (w .bad-bench .ensures) (f .if2 .taken))
-    (c .refusal-number2 .ensures, refl, copied (a .bench .now) (a .room .now) sized (q .put-copy .ensures))
+    rw (eq-eqb _ _ (sized w), looked-at w (f .if2 .taken))
+    (c .refusal-number2 .ensures, refl, room-after w (copying w .put-copy .ensures))
 
 refusal-number-requires-3 : tie.Need-refusal-number-requires-3
 refusal-number-requires-3 c κs = search needs
@@ -57,13 +77,8 @@ returns-3 c =
     let g = c .before in
     let f = g .before in
     let w = f .before in
-    let b = w .before in
-    let q = b .before .before .before in
-    let e = q .before .before in
-    let a = e .before .before .before .before .before .before .args in
-    let sized = e .if1 .left in
-    rw (eq-eqb _ _ sized, held (a .bench .now) (b .bench-in .result) sized (b .bench-in .ensures) (w .bad-bench .ensures) (f .if2 .left), ne-eqb _ _ (g .if3 .taken))
-    (c .refusal-number3 .ensures, refl, copied (a .bench .now) (a .room .now) sized (q .put-copy .ensures))
+    rw (eq-eqb _ _ (sized w), looked-at w (f .if2 .left), ne-eqb _ _ (g .if3 .taken))
+    (c .refusal-number3 .ensures, refl, room-after w (copying w .put-copy .ensures))
 
 refusal-number-requires-4 : tie.Need-refusal-number-requires-4
 refusal-number-requires-4 c κs = search needs
@@ -78,13 +93,8 @@ returns-4 c =
     let g = h .before in
     let f = g .before in
     let w = f .before in
-    let b = w .before in
-    let q = b .before .before .before in
-    let e = q .before .before in
-    let a = e .before .before .before .before .before .before .args in
-    let sized = e .if1 .left in
-    rw (eq-eqb _ _ sized, held (a .bench .now) (b .bench-in .result) sized (b .bench-in .ensures) (w .bad-bench .ensures) (f .if2 .left), eq-eqb _ _ (g .if3 .left), ne-eqb _ _ (h .if4 .taken))
-    (c .refusal-number4 .ensures, refl, copied (a .bench .now) (a .room .now) sized (q .put-copy .ensures))
+    rw (eq-eqb _ _ (sized w), looked-at w (f .if2 .left), eq-eqb _ _ (g .if3 .left), ne-eqb _ _ (h .if4 .taken))
+    (c .refusal-number4 .ensures, refl, room-after w (copying w .put-copy .ensures))
 
 refusal-number-requires-5 : tie.Need-refusal-number-requires-5
 refusal-number-requires-5 c κs = search needs
@@ -100,14 +110,9 @@ returns-5 c =
     let g = h .before in
     let f = g .before in
     let w = f .before in
-    let b = w .before in
-    let q = b .before .before .before in
-    let e = q .before .before in
-    let a = e .before .before .before .before .before .before .args in
-    let sized = e .if1 .left in
-    let wrong = wrong-size (a .bench .now) (a .room .now) (q .put-copy .ensures) (i .if5 .taken) in
-    rw (eq-eqb _ _ sized, held (a .bench .now) (b .bench-in .result) sized (b .bench-in .ensures) (w .bad-bench .ensures) (f .if2 .left), eq-eqb _ _ (g .if3 .left), eq-eqb _ _ (h .if4 .left), ne-eqb _ _ wrong)
-    (c .refusal-number5 .ensures, refl, copied (a .bench .now) (a .room .now) sized (q .put-copy .ensures) ∙ no-fit _ _ (a .room .now) wrong)
+    let wrong = wrong-size (start w .args .bench .now) (start w .args .room .now) (copying w .put-copy .ensures) (i .if5 .taken) in
+    rw (eq-eqb _ _ (sized w), looked-at w (f .if2 .left), eq-eqb _ _ (g .if3 .left), eq-eqb _ _ (h .if4 .left), ne-eqb _ _ wrong)
+    (c .refusal-number5 .ensures, refl, room-after w (copying w .put-copy .ensures) ∙ no-fit _ _ (start w .args .room .now) wrong)
 
 link-in-requires : tie.Need-link-in-requires
 link-in-requires c κs = search needs
@@ -139,16 +144,11 @@ returns-6 c =
     let g = h .before in
     let f = g .before in
     let w = f .before in
-    let b = w .before in
-    let q = b .before .before .before in
-    let e = q .before .before in
-    let a = e .before .before .before .before .before .before .args in
-    let sized = e .if1 .left in
-    let fits = right-size (a .bench .now) (a .room .now) (q .put-copy .ensures) (i .if5 .left) in
-    let copy = copied (a .bench .now) (a .room .now) sized (q .put-copy .ensures) ∙ it-fits _ _ (a .room .now) fits in
-    let r = same-preview (a .bench .now) (a .link .now) (a .sent .now) (a .answer .now) (bench-read (a .bench .now) (b .bench-in .result) sized (b .bench-in .ensures)) (k .link-in .ensures) copy
-        (n .preview .result) (n .preview .ensures) (o .put-reply .ensures .0, p .put-preview .ensures, o .put-reply .ensures .1) in
-    rw (eq-eqb _ _ sized, held (a .bench .now) (b .bench-in .result) sized (b .bench-in .ensures) (w .bad-bench .ensures) (f .if2 .left), eq-eqb _ _ (g .if3 .left), eq-eqb _ _ (h .if4 .left), eq-eqb _ _ fits)
+    let fits = right-size (start w .args .bench .now) (start w .args .room .now) (copying w .put-copy .ensures) (i .if5 .left) in
+    let copy = room-after w (copying w .put-copy .ensures) ∙ it-fits _ _ (start w .args .room .now) fits in
+    let r = same-preview (start w .args .bench .now) (start w .args .link .now) (start w .args .sent .now) (start w .args .answer .now) (bench-found w) (k .link-in .ensures) copy
+    (n .preview .result) (n .preview .ensures) (o .put-reply .ensures .0, p .put-preview .ensures, o .put-reply .ensures .1) in
+    rw (eq-eqb _ _ (sized w), looked-at w (f .if2 .left), eq-eqb _ _ (g .if3 .left), eq-eqb _ _ (h .if4 .left), eq-eqb _ _ fits)
     (r .0, r .2, r .1)
 
 pub preview-spec : {M : Type 1} → statement M

@@ -195,7 +195,8 @@ pub fn model_preview(bench: &katan_model::Bench, sent: &[u8]) -> Preview {
             position,
             registers,
         }),
-        katan_model::Reading::Refused(_) => Lane::Empty,
+        katan_model::Reading::Refused(11) => Lane::Empty,
+        katan_model::Reading::Refused(check) => unreachable!("lane {lane} of the model: {check}"),
     });
     Preview { reply, lanes }
 }
