@@ -27,8 +27,8 @@ done-not-again e = let z : _≡_ {A = ℕ} 0 1 = cc in omega arith
 module _ (b : Bench) (l : Link) (s : List ℕ) where
   abbrev Own : Effect → Type 0
   Own e =
-      ((k : ℕ) → e .answer ≡ refused k → e .bench .slots ≡ b .slots)
-      × ((n t : ℕ) → e .answer ≡ value (again n t) → e .bench .slots ≡ b .slots)
+      ((k : ℕ) → e .answer ≡ refused k → e .bench ≡ b)
+      × ((n t : ℕ) → e .answer ≡ value (again n t) → e .bench ≡ b)
 
   own : (o : Outcome Turn) → Own (effectAs o b l s)
   unfolding effectAs countedEffect

@@ -8,7 +8,6 @@ use lib.ListN.{getD}
 use Rattle.katan.specs.Checks.{value, refused}
 use Rattle.katan.specs.Sizes.{laneCount}
 use Rattle.bench_record.specs.Fields.{AllSaySame}
-use Rattle.bench.specs.declared.Slot.{Slot}
 use Rattle.bench.specs.declared.Bench.{Bench}
 use Rattle.bench.specs.declared.Link.{Link}
 use Rattle.bench.specs.Calls.{Call, arrival, again, Answer, stateAfter, answersTo}
@@ -19,20 +18,20 @@ use Rattle.bench.specs.Claim.{benchAfter, benchAnswers, modelAfter, coun
 
 -- ---- a preview
 
--- the reply and the 64 lanes
+-- the reply, and the bench with its 64 lanes
 pub record PreviewEffect : Type 0 where
   pub answer : Answer
-  pub slots : List Slot
+  pub bench : Bench
 
 -- they equal those got by giving the record to a copy
 unfoldable pub previewOf : Bench → Link → List ℕ → PreviewEffect
-previewOf b l s = record { answer = arriveOf b l s .answer; slots = arriveOf b l s .bench .slots }
+previewOf b l s = record { answer = arriveOf b l s .answer; bench = arriveOf b l s .bench }
 
 -- For a refused record the reply is its number and the lanes are the bench's own, also where check 1 finds the bench damaged; so are a repeat's. For any
 -- bench and link.
 pub record OwnLanes (b : Bench) (l : Link) (s : List ℕ) : Type 0 where
-  pub of-refused : (k : ℕ) → previewOf b l s .answer ≡ refused k → previewOf b l s .slots ≡ b .slots
-  pub of-repeat : (n t : ℕ) → previewOf b l s .answer ≡ value (again n t) → previewOf b l s .slots ≡ b .slots
+  pub of-refused : (k : ℕ) → previewOf b l s .answer ≡ refused k → previewOf b l s .bench ≡ b
+  pub of-repeat : (n t : ℕ) → previewOf b l s .answer ≡ value (again n t) → previewOf b l s .bench ≡ b
 
 abbrev pub EveryOwnLanes : Type 0
 EveryOwnLanes = (b : Bench) (l : Link) (s : List ℕ) → OwnLanes b l s
@@ -52,7 +51,7 @@ pub data EventAnswer : Type 0 where
 -- the bench and the link keep their contents
 unfoldable pub benchEvent : State → Event → State × EventAnswer
 benchEvent x (call c) = (benchTransition x c .0, answered (benchTransition x c .1))
-benchEvent x (preview s) = let p = previewOf (x .bench) (x .link) s in (x, previewed (p .answer) (map slotView (p .slots)))
+benchEvent x (preview s) = let p = previewOf (x .bench) (x .link) s in (x, previewed (p .answer) (map slotView (p .bench .slots)))
 
 -- the reference model judges the record and steps a copy of its machines
 unfoldable pub modelEvent : ℕ → Model → Event → Model × EventAnswer

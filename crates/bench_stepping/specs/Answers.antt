@@ -20,4 +20,4 @@ leaving a l = record { bench = a .bench; link = l; reply = a .reply }
 
 -- what a preview gives
 abbrev pub previewedBy : PreviewResult → PreviewEffect
-previewedBy p = record { answer = replyAnswer (p .reply); slots = p .slots }
+previewedBy p = record { answer = replyAnswer (p .reply); bench = p .bench }

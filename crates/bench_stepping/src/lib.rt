@@ -151,10 +151,10 @@ pub fn arrive_once(bench: Bench, link: Link, sent: &[u8]) -> ArrivalResult
     }
 }
 
-// What a preview gives: the reply, and the 64 lanes.
+// What a preview gives: the reply, and the copy with its 64 lanes.
 pub struct PreviewResult {
+    pub bench: Bench,
     pub reply: Reply,
-    pub slots: [Slot; LANES],
 }
 
 // A record is tried first, on a copy: the caller's bench and link keep their contents.
@@ -162,12 +162,11 @@ pub fn preview(bench: Bench, link: Link, sent: &[u8]) -> PreviewResult
     ensures { λ r. ⌜ previewedBy r ≡ previewOf bench link (now (sent .entry)) ⌝ }
 {
     let after = arrive_once(bench, link, sent);
-    let reply = after.reply;
     let copy = after.bench;
-    let slots = copy.slots;
+    let reply = after.reply;
     PreviewResult {
+        bench: copy,
         reply: reply,
-        slots: slots,
     }
 }
 

@@ -9,7 +9,6 @@ ghost use Rattle.bench_replay.specs.Replay.{replayOutcome};
 ghost use Rattle.driver_layout.specs.Layout.{benchLength, linkLength, benchBytes, linkBytes};
 ghost use Rattle.driver_bench.specs.Calls.{openCall, openedBench, openedLink, arrivalWords, readingWords, responseWords, ifCounted, readCall, arriveCall, arrivedBench, arrivedLink, arrivedAnswer, previewCall, previewedAnswer, previewedRoom, replayCall, replayedBench, replayedAnswers};
 use bench::ArrivalResult;
-use bench::Bench;
 use bench::ReadAnswer;
 use bench::Reply;
 use bench_replay::ReplayAnswer;
@@ -85,19 +84,15 @@ fn put_arrival(after: ArrivalResult, bench: &mut [u8], link: &mut [u8])
     }
 }
 
-// The lanes that a preview shows are written over a copy of the bench; where the record would not count, they are the copy's own.
-fn put_preview(shown: PreviewResult, variant: u8, room: &mut [u8])
+// The bench that a preview shows is written over a copy of the one it was made from; where the record would not count, the copy is that already.
+fn put_preview(shown: PreviewResult, room: &mut [u8])
     requires { ⌜ length (now room) ≡ benchLength ⌝ }
-    ensures { λ r. ⌜ now (room .exit) ≡ ifCounted (replyAnswer (shown .reply)) (benchBytes (record { variant = variant; slots = shown .slots }) (now (room .entry))) (now (room .entry)) ⌝ }
+    ensures { λ r. ⌜ now (room .exit) ≡ ifCounted (replyAnswer (shown .reply)) (benchBytes (shown .bench) (now (room .entry))) (now (room .entry)) ⌝ }
 {
     let reply = shown.reply;
     match reply {
         Reply::Done { number, total } => {
-            let slots = shown.slots;
-            let next = Bench {
-                variant: variant,
-                slots: slots,
-            };
+            let next = shown.bench;
             put_bench(next, room);
         }
         Reply::Again { number, total } => {}
@@ -192,7 +187,7 @@ pub fn preview(bench: &[u8], link: &[u8], sent: &[u8], answer: &mut [u32], room:
     }
     let shown = bench_stepping::preview(found, link_in(link), sent);
     let reply = shown.reply;
-    put_preview(shown, found.variant, room);
+    put_preview(shown, room);
     put_reply(reply, answer)
 }
 

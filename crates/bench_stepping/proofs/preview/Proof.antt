@@ -10,13 +10,13 @@ use Rattle.bench_stepping.proofs.preview.Tie as tie
 arrive-once-requires : tie.Need-arrive-once-requires
 arrive-once-requires c κs = search needs
 
--- of what an arrival leaves, the lanes
+-- what is shown of what an arrival leaves
 abbrev shown : Effect → PreviewEffect
-shown e = record { answer = e .answer; slots = e .bench .slots }
+shown e = record { answer = e .answer; bench = e .bench }
 
 returns : tie.Need-returns
 unfolding previewOf
-returns c = ap shown (c .before .before .arrive-once .ensures)
+returns c = ap shown (c .before .arrive-once .ensures)
 
 pub preview-spec : {M : Type 1} → statement M
 preview-spec = tie.close (tie.spec arrive-once-requires returns)

@@ -8,6 +8,7 @@ use lib.ListN.{length}
 use borrow.Author.Tests.{eq-eqb, ne-eqb}
 use Rattle.driver_layout.specs.Layout.{benchLength, benchIn, fitted}
 use Rattle.driver_layout.proofs.Fitted.{it-fits, no-fit, bench-read}
+use Rattle.bench.specs.Preview.{previewOf}
 use Rattle.driver_bench.specs.Calls.{heldCheck, arriveCall, previewCall}
 use Rattle.driver_bench.proofs.Held.{held}
 use Rattle.driver_bench.proofs.Previews.{copied, wrong-size, right-size, same-preview}
@@ -133,7 +134,7 @@ same-length-6 : tie.Need-same-length-6
 same-length-6 c = search needs
 
 returns-6 : tie.Need-returns-6
-unfolding previewCall arriveCall
+unfolding previewCall arriveCall previewOf
 returns-6 c =
     let o = c .before .before in
     let p = o .before .before .before .before in
