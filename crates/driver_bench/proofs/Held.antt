@@ -1,11 +1,20 @@
 -- Check 1 of the bench that lent memory says.
 -- Assumes nothing.
-use mathlib.Core.Path.{_≡_, sym, ap, _∙_}
-use mathlib.Core.Bool.{Bool}
-use mathlib.Core.List.{List}
+use mathlib.Core.Path.{_≡_, refl, sym, ap, _∙_}
+use mathlib.Core.Bool.{Bool, true, false}
+use mathlib.Core.List.{List, _∷_, _++_}
 use Prim.Native.Nat.{ℕ}
 use lib.ListN.{length}
+use Rattle.katan.specs.Bit.{pick}
+use Rattle.katan.specs.Checks.{Outcome, value, refused, sizeCheck}
+use Rattle.katan.proofs.Checked.{fault-first}
+use Rattle.bench_record.specs.Fields.{recordLength, decode}
+use Rattle.bench_record.specs.Checks.{fieldChecks}
 use Rattle.bench.specs.declared.Bench.{Bench}
+use Rattle.bench.specs.declared.Link.{Link}
+use Rattle.bench.specs.Calls.{Answer}
+use Rattle.bench.specs.Checks.{turnChecks, arrivalChecks, Turn, turnOf, decision}
+use Rattle.bench.specs.Bench.{benchView, effectAs, arriveOf}
 use Rattle.driver_layout.specs.Layout.{benchLength, benchIn, readAs}
 use Rattle.driver_layout.proofs.Fitted.{bench-read}
 use Rattle.driver_bench.specs.Calls.{heldCheck}
@@ -14,3 +23,24 @@ use Rattle.driver_bench.specs.Calls.{heldCheck}
 pub held : (s : List ℕ) (b : Bench) {t x : Bool} → length s ≡ benchLength → b ≡ benchIn (readAs benchLength s)
     → t ≡ heldCheck b .fault → t ≡ x → heldCheck (benchIn s) .fault ≡ x
 held s b n e f g = ap (λ (y : Bench). heldCheck y .fault) (sym (bench-read s b n e)) ∙ sym f ∙ g
+
+-- check 1 comes first in an arrival too
+pub refused-1 : (b : Bench) (l : Link) (sent : List ℕ) → heldCheck b .fault ≡ true → arriveOf b l sent .answer ≡ refused 1
+unfolding arriveOf decision arrivalChecks benchView effectAs
+refused-1 b l sent e =
+    let later = sizeCheck recordLength sent ∷ fieldChecks (b .variant) (decode sent) ++ turnChecks (l .last) (l .bytes) sent in
+    let d : decision (benchView b l) sent ≡ refused 1 = fault-first (heldCheck b) later (value (turnOf (l .last) sent)) e in
+    ap (λ (o : Outcome Turn). effectAs o b l sent .answer) d
+
+-- so an arrival finds it by itself
+pub found-by-itself : (b : Bench) (l : Link) (sent : List ℕ) → pick (heldCheck b .fault) (refused 1) (arriveOf b l sent .answer) ≡ arriveOf b l sent .answer
+found-by-itself b l sent = go (heldCheck b .fault) refl
+  where
+    go : (t : Bool) → heldCheck b .fault ≡ t → _≡_ {A = Answer} (pick t (refused 1) (arriveOf b l sent .answer)) (arriveOf b l sent .answer)
+    go true e = sym (refused-1 b l sent e)
+    go false e = refl
+
+-- 1, or else 2
+pub either : (t : Bool) → _≡_ {A = Answer} (pick t (refused 1) (refused 2)) (refused (pick t 1 2))
+either true = refl
+either false = refl

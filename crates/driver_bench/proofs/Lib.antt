@@ -1,4 +1,4 @@
-mod Held
+pub mod Held
 mod Arrivals
 mod Previews
 mod Replays

@@ -8,25 +8,20 @@ use lib.Dec.{eqb}
 use lib.ListN.{length}
 use borrow.Author.Tests.{eqb-true}
 use Rattle.katan.specs.Bit.{pick}
-use Rattle.katan.specs.Checks.{Outcome, value, refused}
 use Rattle.katan.specs.Lent.{statusOf, lentAfter}
-use Rattle.bench.specs.declared.Slot.{Slot}
 use Rattle.bench.specs.declared.Bench.{Bench}
 use Rattle.bench.specs.declared.Link.{Link}
-use Rattle.bench.specs.Calls.{Answer}
-use Rattle.bench.specs.Checks.{Turn, counts, repeats, decision}
-use Rattle.bench.specs.Bench.{replyAnswer, benchView, Effect, countedEffect, effectAs, arriveOf}
 use Rattle.bench.specs.Preview.{PreviewEffect, previewOf}
 use Rattle.bench_stepping.specs.declared.PreviewResult.{PreviewResult}
 use Rattle.bench_stepping.specs.Answers.{previewedBy}
 use Rattle.driver_layout.specs.Layout.{benchLength, benchIn, linkIn, benchBytes, fitted}
-use Rattle.driver_bench.specs.Calls.{responseWords, ifCounted, arriveEffect}
+use Rattle.driver_bench.specs.Calls.{responseWords, ifCounted}
 
 -- the room after the bench was copied into it
 pub copied : (bench room : List ℕ) {new : List ℕ} → length bench ≡ benchLength → new ≡ fitted (length bench) bench room → new ≡ fitted benchLength bench room
 copied bench room n e = e ∙ ap (λ (k : ℕ). fitted k bench room) n
 
--- has the length that it had
+-- and it has the length that it had
 same-size : (bench room : List ℕ) {new : List ℕ} → new ≡ fitted (length bench) bench room → length new ≡ length room
 same-size bench room e = ap length e ∙ go (eqb (length room) (length bench)) refl
   where

@@ -3,12 +3,15 @@
 ghost use mathlib.Core.Path.{_≡_};
 ghost use mathlib.Core.List.{[], _∷_};
 ghost use lib.ListN.{length};
+ghost use Rattle.katan.specs.Bit.{pick};
+ghost use Rattle.katan.specs.Checks.{numberOf};
 ghost use Rattle.katan.specs.Lent.{statusOf, lentAfter};
 ghost use Rattle.bench.specs.Bench.{replyAnswer, readingAnswer};
 ghost use Rattle.bench_replay.specs.Replay.{replayOutcome};
 ghost use Rattle.driver_layout.specs.Layout.{benchLength, linkLength, benchBytes, linkBytes};
-ghost use Rattle.driver_bench.specs.Calls.{openCall, openedBench, openedLink, arrivalWords, readingWords, responseWords, ifCounted, readCall, arriveCall, arrivedBench, arrivedLink, arrivedAnswer, previewCall, previewedAnswer, previewedRoom, replayCall, replayedBench, replayedAnswers};
+ghost use Rattle.driver_bench.specs.Calls.{openCall, openedBench, openedLink, arrivalWords, readingWords, responseWords, ifCounted, heldCheck, readCall, arriveCall, arrivedBench, arrivedLink, arrivedAnswer, previewCall, previewedAnswer, previewedRoom, replayCall, replayedBench, replayedAnswers};
 use bench::ArrivalResult;
+use bench::Bench;
 use bench::ReadAnswer;
 use bench::Reply;
 use bench_replay::ReplayAnswer;
@@ -161,8 +164,19 @@ pub fn arrive(bench: &mut [u8], link: &mut [u8], sent: &[u8], answer: &mut [u32]
     put_reply(reply, answer)
 }
 
+// Why a preview is refused where other lent memory than the bench has another length: 1 stands before that.
+fn bench_or_length(found: Bench) -> Refusal
+    ensures { λ r. ⌜ numberOf r ≡ pick (heldCheck found .fault) 1 2 ⌝ }
+{
+    if bench_checks::bad_bench(found) {
+        Refusal::BadVariant
+    } else {
+        Refusal::BadLength
+    }
+}
+
 // What a record would be answered, and, in the room, the memory of the bench that it would leave: on a refusal the bench's own, but for 2 of bench or
-// room, which leaves the room alone.
+// room, which leaves the room alone. With all lengths right check 1 is the preview's own.
 pub fn preview(bench: &[u8], link: &[u8], sent: &[u8], answer: &mut [u32], room: &mut [u8]) -> u8
     ensures { λ r. ⌜ (r ≡ statusOf (previewCall (now (bench .entry)) (now (link .entry)) (now (sent .entry)) (now (answer .entry)) (now (room .entry))))
         × (now (answer .exit) ≡ previewedAnswer (now (bench .entry)) (now (link .entry)) (now (sent .entry)) (now (answer .entry)) (now (room .entry)))
@@ -173,17 +187,14 @@ pub fn preview(bench: &[u8], link: &[u8], sent: &[u8], answer: &mut [u32], room:
     }
     put_copy(bench, room);
     let found = bench_in(bench);
-    if bench_checks::bad_bench(found) {
-        return refusal_number(Refusal::BadVariant);
-    }
     if link.len() != LINK_LENGTH {
-        return refusal_number(Refusal::BadLength);
+        return refusal_number(bench_or_length(found));
     }
     if answer.len() != ARRIVAL_WORDS {
-        return refusal_number(Refusal::BadLength);
+        return refusal_number(bench_or_length(found));
     }
     if room.len() != BENCH_LENGTH {
-        return refusal_number(Refusal::BadLength);
+        return refusal_number(bench_or_length(found));
     }
     let shown = bench_stepping::preview(found, link_in(link), sent);
     let reply = shown.reply;

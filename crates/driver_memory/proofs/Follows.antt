@@ -2,7 +2,7 @@
 -- Assumes nothing.
 use mathlib.Core.Path.{_≡_, refl, sym, ap, _∙_}
 use mathlib.Core.Bool.{Bool, true, false, not}
-use mathlib.Core.List.{List, [], _∷_, _++_, map}
+use mathlib.Core.List.{List, [], _∷_, map}
 use Prim.Native.Nat.{ℕ, zero, suc, _≤_}
 use native.Mathlib.Omega.{arith}
 use lib.ListN.{length, getD, replicate, length-replicate}
@@ -14,15 +14,15 @@ use Rattle.katan.specs.Sizes.{laneCount}
 use Rattle.katan.proofs.Checked.{fault-first, fault-later, checked-append}
 use Rattle.katan.proofs.Variants.{variant-sound}
 use Rattle.bench.specs.Calls.{Answer}
-use Rattle.bench_record.specs.Fields.{recordLength, decode}
-use Rattle.bench_record.specs.Checks.{fieldChecks, laneCheck}
-use Rattle.bench.specs.Checks.{emptyLane, turnChecks, emptyCheck, arrivalChecks, readChecks, Turn, counts, repeats, turnOf, decision, laneAnswer, readOutcome}
+use Rattle.bench_record.specs.Checks.{laneCheck}
+use Rattle.bench.specs.Checks.{emptyLane, emptyCheck, readChecks, Turn, counts, repeats, decision, laneAnswer, readOutcome}
 use Rattle.bench.specs.Bench.{emptySlot, freshBench, freshLink, slotView, benchView, countedEffect, effectAs, arriveOf, readOf}
 use Rattle.driver_layout.specs.Layout.{benchLength, linkLength, benchIn, linkIn, benchBytes, linkBytes}
 use Rattle.driver_bench.specs.Calls.{openCall, openedBench, openedLink, arrivalWords, readingWords, heldCheck, ifCounted, readCall, arriveEffect, arriveChecks, arriveCall, previewCall}
 use Rattle.driver_layout.specs.ReadBack.{SlotsFit, BenchFits, LinkFits}
 use Rattle.driver_layout.proofs.ReadBack.{bench-read-back, link-read-back}
 use Rattle.driver_layout.proofs.Fits.{bench-in-fits, link-in-fits}
+use Rattle.driver_bench.proofs.Held.{refused-1}
 use Rattle.driver_memory.specs.Follows.{EveryOpening, Arrives, EveryArrival, EveryRead, EveryPreview}
 use Rattle.driver_memory.proofs.Fits.{effect-fits}
 
@@ -59,16 +59,6 @@ every-opening v least most bench link n m =
 -- ---- an arrival
 
 module _ (bench link sent : List ℕ) where
-  -- check 1 comes first in a list's arrival too
-  refused-1 : heldCheck (benchIn bench) .fault ≡ true → arriveOf (benchIn bench) (linkIn link) sent .answer ≡ refused 1
-  unfolding arriveOf decision arrivalChecks benchView effectAs
-  refused-1 e =
-      let v = benchIn bench .variant in
-      let l = linkIn link in
-      let later = sizeCheck recordLength sent ∷ fieldChecks v (decode sent) ++ turnChecks (l .last) (l .bytes) sent in
-      let d : decision (benchView (benchIn bench) l) sent ≡ refused 1 = fault-first (heldCheck (benchIn bench)) later (value (turnOf (l .last) sent)) e in
-      ap (λ (o : Outcome Turn). effectAs o (benchIn bench) (linkIn link) sent .answer) d
-
   leaves : length bench ≡ benchLength → (o : Outcome Turn) → let e = effectAs o (benchIn bench) (linkIn link) sent in BenchFits (e .bench) → LinkFits (e .link)
       → (benchIn (ifCounted (e .answer) (benchBytes (e .bench) bench) bench) ≡ e .bench) × (linkIn (ifCounted (e .answer) (linkBytes (e .link)) link) ≡ e .link)
   unfolding effectAs countedEffect
@@ -84,7 +74,7 @@ module _ (bench link sent : List ℕ) where
   same : (answer : List ℕ) → length bench ≡ benchLength → length link ≡ linkLength → length answer ≡ arrivalWords → (t : Bool) → heldCheck (benchIn bench) .fault ≡ t
       → arriveCall bench link sent answer ≡ arriveEffect bench link sent answer .answer
   unfolding arriveCall
-  same answer n m k true e = rw (eq-eqb _ _ n, e) (sym (refused-1 e))
+  same answer n m k true e = rw (eq-eqb _ _ n, e) (sym (refused-1 (benchIn bench) (linkIn link) sent e))
   same answer n m k false e = rw (eq-eqb _ _ n, e, eq-eqb _ _ m, eq-eqb _ _ k)
 
 -- where the bench and the link that the memory says fit
