@@ -6,7 +6,7 @@
  * are looked for by rising number, as each call says under "Checked", with two exceptions: katan_arrive, katan_preview
  * and katan_read look at the bench's length (2), then at the bench (1), then at the other lengths (2); katan_keystream
  * looks for 14 before 7. A refused call leaves all lent memory as it was, with one exception: katan_preview writes its
- * room also where it is refused.
+ * room also where it is refused, unless bench or room has another length.
  *
  * Slices. A slice is lent as a pointer and then its length, in elements, not in bytes. A length other than the one
  * named at the call gets KATAN_BAD_LENGTH; data too long for a keystream gets KATAN_BEYOND_END. A pointer is aligned
@@ -263,13 +263,14 @@ uint8_t katan_arrive(uint8_t *bench, size_t bench_length, uint8_t *link, size_t 
  * WRITTEN, and has then, byte for byte, what katan_arrive would leave in the bench's memory: for a record that would be
  * done, the bench as it leaves it; for a repeat and on every refusal, the bench's own bytes as they are, also those of a
  * damaged bench, and also where link, answer or record has another length. Only where the bench or the room itself has
- * another length there is nothing to show, and nothing is written. Empty lanes are copied whole: the old key of a lane
+ * another length there is no bench to show or no room for it, and nothing is written. Empty lanes are copied whole: the old key of a lane
  * that was cleared is in the room too.
  *
  * No link goes with the room: it is for looking at, also by katan_read. To commit, send the record to katan_arrive. With
  * the room in the bench's place the link would not know the record, and it would be done twice.
  *
- * The status is katan_arrive's but for the room: one of another length gets 2, also where the record would count.
+ * The status is katan_arrive's but for the room: one of another length gets 2 after 1, also where the record would
+ * count.
  * Checked: 2 of `bench`; 1; 2 of `link`, `answer`, `room` and `record`; 3 to 10.
  */
 uint8_t katan_preview(const uint8_t *bench, size_t bench_length, const uint8_t *link, size_t link_length,

@@ -121,8 +121,8 @@ pub extern "C" fn katan_arrive(
     driver_bench::arrive(bench, link, sent, answer)
 }
 
-// What a record would be answered, and, in the room, the memory of the bench that it would leave: on a refusal the bench's own, but for 2 of bench or
-// room, which leaves the room alone.
+// What a record would be answered, and, in the room, the memory of the bench that it would leave, on a refusal the bench's own; where bench or room has
+// another length the room is left alone.
 #[no_mangle]
 pub extern "C" fn katan_preview(
     bench: &[u8],

@@ -32,7 +32,7 @@ module _ (v : ℕ) (bench link : List ℕ) where
 
 -- ---- an arrival and a read
 
--- the words lent for the answer to an arrival, and to a read
+-- the words lent for the answer to an arrival or a preview, and to a read
 abbrev pub arrivalWords : ℕ
 arrivalWords = 3
 
@@ -91,8 +91,8 @@ module _ (bench link sent answer room : List ℕ) where
   abbrev pub previewedAnswer : List ℕ
   previewedAnswer = lentAfter responseWords previewCall answer
 
-  -- The room becomes what an arrival would leave in a copy of the bench's memory, whatever the status. Where bench or room has another length there is
-  -- nothing to show, and the room stays.
+  -- The room becomes what an arrival would leave in a copy of the bench's memory, whatever the status. Where bench or room has another length there is no
+  -- bench to show or no room for it, and the room stays.
   abbrev pub previewedRoom : List ℕ
   previewedRoom = pick (eqb (length bench) benchLength && eqb (length room) benchLength) (arrivedBench bench link sent answer) room
 

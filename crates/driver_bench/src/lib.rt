@@ -30,12 +30,12 @@ use katan_variants::refusal_number;
 // The status of a call that is not refused.
 const ACCEPTED: u8 = 0;
 
-// The words lent for the answer to an arrival, and to a read.
+// The words lent for the answer to an arrival or a preview, and to a read.
 const ARRIVAL_WORDS: usize = 3;
 
 const READING_WORDS: usize = 2;
 
-// The first word of the answer to an arrival.
+// The first word of the answer to an arrival or a preview.
 const DONE: u32 = 0;
 
 const AGAIN: u32 = 1;
@@ -175,8 +175,8 @@ fn bench_or_length(found: Bench) -> Refusal
     }
 }
 
-// What a record would be answered, and, in the room, the memory of the bench that it would leave: on a refusal the bench's own, but for 2 of bench or
-// room, which leaves the room alone. With all lengths right check 1 is the preview's own.
+// What a record would be answered, and, in the room, the memory of the bench that it would leave, on a refusal the bench's own; where bench or room has
+// another length the room is left alone. With all lengths right check 1 is the preview's own.
 pub fn preview(bench: &[u8], link: &[u8], sent: &[u8], answer: &mut [u32], room: &mut [u8]) -> u8
     ensures { λ r. ⌜ (r ≡ statusOf (previewCall (now (bench .entry)) (now (link .entry)) (now (sent .entry)) (now (answer .entry)) (now (room .entry))))
         × (now (answer .exit) ≡ previewedAnswer (now (bench .entry)) (now (link .entry)) (now (sent .entry)) (now (answer .entry)) (now (room .entry)))

@@ -17,7 +17,7 @@ use lanes::Direction;
 // The status of a call that is not refused.
 const ACCEPTED: u8 = 0;
 
-// The version of the calls: their parameters, numbers and layouts.
+// The version of the calls: which there are, their parameters, numbers and layouts.
 const VERSION: u32 = 4;
 
 // The answer of a call that gives one word.

@@ -241,9 +241,9 @@ pub struct Reading {
 #[derive(Clone, Copy, Debug, PartialEq, Eq)]
 pub enum Lane {
     Empty,
-    /// Its position and registers. On a bench that is refused as damaged they may be too large.
+    /// Its position and registers. On a bench that gets [`Refusal::BadVariant`] they may be too large.
     Loaded(Reading),
-    /// Its state is neither: only so on a bench that is refused as damaged.
+    /// Its state is neither: only so on a bench that gets [`Refusal::BadVariant`].
     OtherState,
 }
 

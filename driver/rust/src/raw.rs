@@ -228,8 +228,9 @@ pub fn arrive(bench: &mut [u8], link: &mut [u8], sent: &[u8], answer: &mut [u32]
 }
 
 /// What [`arrive`] would answer, and in the room what it would leave in the bench's memory: the bench's
-/// own bytes where the record is refused or a repeat. Only with a bench or a room of another length is
-/// the room left as it was. No link goes with the room: it is for looking at, also by [`read`].
+/// own bytes where the record is refused or a repeat. A room of another length is refused with 2, after
+/// 1; only then, or with a bench of another length, is the room left as it was. No link goes with the
+/// room: it is for looking at, also by [`read`].
 pub fn preview(bench: &[u8], link: &[u8], sent: &[u8], answer: &mut [u32], room: &mut [u8]) -> u8 {
     unsafe {
         c::katan_preview(

@@ -474,6 +474,14 @@ fn fault_of(variant: u8, events: &[Event]) -> Option<String> {
                 if let Some((lane, (got, shown))) = lanes.find(|(_, (got, shown))| got != shown) {
                     return Some(format!("event {i}, lane {lane}: {got:x?}, not {shown:x?}"));
                 }
+                // The room has every byte of a copy that the record arrives at, keys and empty lanes too.
+                let (mut copy, mut room) = (before.clone(), [0x99; BENCH_LENGTH]);
+                let (memory, link) = before.bytes();
+                raw::preview(memory, link, sent, &mut [0; 3], &mut room);
+                let _ = copy.arrive(sent);
+                if room != *copy.bytes().0 {
+                    return Some(format!("event {i} leaves other bytes in the room"));
+                }
             }
         }
     }
