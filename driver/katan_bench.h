@@ -261,17 +261,16 @@ uint8_t katan_arrive(uint8_t *bench, size_t bench_length, uint8_t *link, size_t 
  *
  * `room` has KATAN_BENCH_LENGTH bytes, holding anything, not the bench's own memory. WHATEVER THE STATUS, THE ROOM IS
  * WRITTEN, and has then, byte for byte, what katan_arrive would leave in the bench's memory: for a record that would be
- * done, the bench as it leaves it; for a repeat and on every refusal, the bench's own bytes as they are, also those of a
- * damaged bench, and also where link, answer or record has another length. Only where the bench or the room itself has
- * another length there is no bench to show or no room for it, and nothing is written. Empty lanes are copied whole: the old key of a lane
- * that was cleared is in the room too.
+ * done, the bench as it leaves it; for a repeat and on every refusal, the bench's own bytes as they are, also those of
+ * a damaged bench, and also where link, answer or record has another length. Only where the bench or the room itself
+ * has another length there is no bench to show or no room for it, and nothing is written. Empty lanes are copied whole:
+ * the old key of a lane that was cleared is in the room too.
  *
  * No link goes with the room: it is for looking at, also by katan_read. To commit, send the record to katan_arrive. With
  * the room in the bench's place the link would not know the record, and it would be done twice.
  *
  * The status is katan_arrive's but for the room: one of another length gets 2 after 1, also where the record would
- * count.
- * Checked: 2 of `bench`; 1; 2 of `link`, `answer`, `room` and `record`; 3 to 10.
+ * count. Checked: 2 of `bench`; 1; 2 of `link`, `answer`, `room` and `record`; 3 to 10.
  */
 uint8_t katan_preview(const uint8_t *bench, size_t bench_length, const uint8_t *link, size_t link_length,
                       const uint8_t *record, size_t record_length, uint32_t *answer, size_t answer_length,
