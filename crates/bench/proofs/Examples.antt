@@ -67,7 +67,7 @@ pub cases-model : modelAnswers 4 cases
 unfolding inputOf registersAt kindOf namesAs unknown unused wrongCount noneNamed stepAs movedAs stepAll totalOf answersTo laneFault anyLaneFault sameBytes isEmpty arrivalChecks readChecks decision laneAnswer readOutcome freshModel machineView modelView afterCounted arrivalAs modelTransition
 cases-model = refl
 
--- ---- the order of the checks: a record with two faults, and lanes that meet 1
+-- ---- the order of the checks: records with two faults or one, and lanes that meet 1
 
 abbrev view : (variant : ℕ) → LaneView → (last : ℕ) → List ℕ → View
 view v lane last latest = record { variant = v; lanes = lane ∷ []; last = last; latest = latest }
@@ -81,16 +81,35 @@ decide = map (λ (x : View × List ℕ). decision (x .0) (x .1))
 pub order : decide (
     (view 0 emptyLane 0 [], bytes 1 0 0 1 0 0) ∷ (view 7 emptyLane 0 [], []) ∷ (view 1 (loadedLane (shows 255 0)) 0 [], []) ∷ (view 1 (loadedLane (shows 0 (2 ^ 32))) 0 [], [])
     ∷ (view 1 (loadedLane (shows 254 (2 ^ 32 - 1))) 0 [], bytes 1 0 0 1 0 0) ∷ (view 2 (loadedLane (shows 0 (2 ^ 32))) 0 [], bytes 1 0 0 1 0 0)
-    ∷ (view 1 emptyLane 0 [], 5 ∷ []) ∷ (view 1 emptyLane 0 [], set (bytes 5 0 0 1 0 0) 3 1) ∷ (view 1 emptyLane 0 [], bytes 1 64 0 1 1 0)
-    ∷ (view 1 emptyLane 0 [], bytes 1 64 255 1 0 0) ∷ (view 1 emptyLane 0 [], set (bytes 1 0 255 1 0 0) 30 1) ∷ (view 1 emptyLane 0 [], set (bytes 1 0 0 2 0 0) 30 1)
-    ∷ (view 1 emptyLane 0 [], bytes 4 0 0 2 0 0) ∷ (view 1 emptyLane 0 [], bytes 4 0 0 0 1 0)
+    ∷ (view 1 emptyLane 0 [], 5 ∷ []) ∷ (view 1 emptyLane 0 [], replicate 40 0) ∷ (view 1 emptyLane 0 [], bytes 4 0 0 0 1 0)
+    ∷ (view 1 emptyLane 0 [], set (bytes 5 0 0 1 0 0) 3 1) ∷ (view 1 emptyLane 0 [], bytes 1 64 0 1 1 0) ∷ (view 1 emptyLane 0 [], bytes 1 64 255 1 0 0)
+    ∷ (view 1 emptyLane 0 [], set (bytes 1 0 255 1 0 0) 30 1) ∷ (view 1 emptyLane 0 [], set (bytes 1 0 0 1 0 0) 30 1) ∷ (view 1 emptyLane 0 [], bytes 4 0 0 1 0 0)
     ∷ (view 1 emptyLane (2 ^ 32 - 1) final, final) ∷ (view 1 emptyLane (2 ^ 32 - 1) final, bytes 4 0 0 0 1 0) ∷ (view 1 emptyLane (2 ^ 32 - 1) final, set final 8 2) ∷ [])
     ≡ refused 1 ∷ refused 1 ∷ refused 1 ∷ refused 1
     ∷ value counts ∷ value counts
-    ∷ refused 2 ∷ refused 3 ∷ refused 4
-    ∷ refused 5 ∷ refused 6 ∷ refused 7
-    ∷ refused 8 ∷ refused 9
+    ∷ refused 2 ∷ refused 9 ∷ refused 9
+    ∷ refused 3 ∷ refused 4 ∷ refused 5
+    ∷ refused 6 ∷ refused 7 ∷ refused 8
     ∷ value repeats ∷ refused 9 ∷ refused 10
     ∷ []
 unfolding kindOf unknown unused wrongCount noneNamed laneFault anyLaneFault sameBytes arrivalChecks decision
 order = refl
+
+-- ---- a fault of each number 3 to 8, in a record numbered n: out of turn, with other bytes than the latest, in turn, and the exact repeat of a faulty
+-- record that a link made by hand remembers
+
+abbrev formFaults : (n : ℕ) → List (List ℕ)
+formFaults n =
+    bytes 5 0 0 n 0 0 ∷ bytes 1 0 0 n 1 0 ∷ bytes 1 64 0 n 0 0
+    ∷ bytes 2 0 255 n 1 0 ∷ set (bytes 1 0 0 n 0 0) 30 1 ∷ bytes 4 0 0 n 0 0
+    ∷ []
+
+abbrev faulty : (n : ℕ) → (last : ℕ) → (List ℕ → List ℕ) → List (Outcome Turn)
+faulty n last latest = map (λ (s : List ℕ). decision (view 1 emptyLane last (latest s)) s) (formFaults n)
+
+pub turn-before-form : faulty 2 0 (λ s. []) ++ faulty 7 8 (λ s. s) ++ faulty 8 8 (λ s. set s 39 1) ++ faulty 9 8 (λ s. s) ++ faulty 8 8 (λ s. s)
+    ≡ replicate 6 (refused 9) ++ replicate 6 (refused 9) ++ replicate 6 (refused 10)
+    ++ (refused 3 ∷ refused 4 ∷ refused 5 ∷ refused 6 ∷ refused 7 ∷ refused 8 ∷ [])
+    ++ (refused 3 ∷ refused 4 ∷ refused 5 ∷ refused 6 ∷ refused 7 ∷ refused 8 ∷ [])
+unfolding kindOf unknown unused wrongCount noneNamed laneFault anyLaneFault sameBytes arrivalChecks decision
+turn-before-form = refl

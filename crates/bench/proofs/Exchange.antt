@@ -10,8 +10,7 @@ use Rattle.katan.specs.Bit.{pick}
 use Rattle.katan.specs.Checks.{Outcome, value, refused}
 use Rattle.katan.specs.Sizes.{laneCount}
 use Rattle.bench_record.specs.declared.Record.{Record}
-use Rattle.bench_record.specs.Fields.{sameBytes, decode, kind, names}
-use Rattle.bench_record.proofs.Same.{same-equal}
+use Rattle.bench_record.specs.Fields.{decode, kind, names}
 use Rattle.bench.specs.declared.Bench.{Bench}
 use Rattle.bench.specs.declared.Link.{Link}
 use Rattle.bench.specs.Machine.{Machine, stepAs, movedAs, stepAll, totalOf}
@@ -22,7 +21,7 @@ use Rattle.bench.specs.Bench.{benchView, effectAs, arriveOf, readOf, Sta
 use Rattle.bench.specs.Claim.{benchAfter, benchAnswers, modelAfter, modelAnswers, countedRecords, lastNumber}
 use Rattle.bench.specs.Laws.{SoundRecord, andArrival}
 use Rattle.bench.specs.Exchange.{numbered, Apart, NotSent, lastAfter, totalNext, bothDone, inTurn, NeitherSent, Ready, SameTotals, EitherOrder}
-use Rattle.bench.proofs.Turns.{repeats-last}
+use Rattle.bench.proofs.Turns.{not-latest, repeats-last}
 use Rattle.bench.proofs.Lists.{Latest, still-kept, same-more, same-bench}
 use Rattle.bench.proofs.Laws.{same, next-leaves, next-answers, counting}
 use Rattle.bench.proofs.Numbering.{its-number, numbered-sound, numbered-steps, numbered-total}
@@ -58,14 +57,6 @@ module _ (r q : Record) where
       )
 
 -- ---- calls that come later
-
--- a record that is not the latest one is not taken for it
-not-latest : (latest s : List ℕ) → (s ≡ latest → ⊥) → sameBytes latest s ≡ false
-not-latest latest s differs = go (sameBytes latest s) refl
-  where
-    go : (b : Bool) → sameBytes latest s ≡ b → b ≡ false
-    go true e = absurd (differs (sym (same-equal latest s e)))
-    go false e = refl
 
 module _ (b : Bench) (l o : Link) (last : l .last ≡ o .last) where
   same-decision : (s : List ℕ) → (s ≡ l .bytes → ⊥) → (s ≡ o .bytes → ⊥) → decision (benchView b l) s ≡ decision (benchView b o) s

@@ -7,7 +7,7 @@ use mathlib.Core.Logic.{_⊎_, inl, inr}
 use Prim.Native.Nat.{ℕ, _+_, _-_, _^_, _<_, _≤_, min}
 use native.Mathlib.Omega.{arith}
 use lib.ListN.{length, getD}
-use borrow.Author.Tests.{eq-eqb, ne-eqb}
+use borrow.Author.Tests.{eq-eqb}
 use lib.Pow.{pow-pos}
 use Rattle.katan.specs.Bit.{pick}
 use Rattle.katan.specs.Counter.{rounds}
@@ -16,7 +16,7 @@ use Rattle.katan.specs.Variant.{widthOf}
 use Rattle.katan.specs.Machine.{registersAt}
 use Rattle.katan.specs.Checks.{Outcome, value, refused, Check, checked, sizeCheck}
 use Rattle.katan.specs.Sizes.{laneCount}
-use Rattle.katan.proofs.Checked.{NoFault, no-fault-found, all-passed}
+use Rattle.katan.proofs.Checked.{no-fault-found, all-passed}
 use Rattle.katan.proofs.KeyNumbers.{number-of-key}
 use Rattle.katan.proofs.Positions.{at-load}
 use Rattle.bench_record.specs.declared.Record.{Record}
@@ -26,39 +26,34 @@ use Rattle.bench_record.specs.Checks.{fieldChecks}
 use Rattle.bench_record.proofs.Same.{same-self}
 use Rattle.bench.specs.Machine.{Machine, empty, loaded, stepAs, machineStep, totalOf}
 use Rattle.bench.specs.Calls.{Call, arrival, reading, done, again, Answer, stateAfter, answersTo}
-use Rattle.bench.specs.Checks.{View, benchCheck, turnCheck, repeatCheck, arrivalChecks, Turn, counts, repeats, turnOf, decision}
+use Rattle.bench.specs.Checks.{View, benchCheck, arrivalChecks, Turn, counts, repeats, turnOf, decision}
 use Rattle.bench.specs.Model.{Model, freshModel, machineView, modelView, afterCounted, arrivalAs, modelTransition, madeBy}
 use Rattle.bench.specs.Claim.{benchAnswers, modelAnswers, modelAfter, countedRecords, laneAfter}
 use Rattle.bench.specs.Laws.{SoundRecord, FirstFault, andArrival, CountsNext, AnsweredAgain, laneShows, loadCall, moveCall, Laws}
 use Rattle.bench.proofs.Calls.{state-more, answers-more}
-use Rattle.bench.proofs.Turns.{counts-next}
+use Rattle.bench.proofs.Turns.{turnOutcome, turn-counts, turn-repeats, turnsOf, memoryChecks, decision-parts, counts-next}
 use Rattle.bench.proofs.Lists.{every-list}
 use Rattle.bench.proofs.Written.{load-back, move-back, in-word, lane-mask, own-bit, load-sound, forward-sound, back-sound}
 
--- ---- no check finds a fault
+-- ---- a sound record
 
 module _ (w : View) (s : List ℕ) (fit : benchCheck (w .variant) (w .lanes) .fault ≡ false) (sound : SoundRecord (w .variant) s) where
-  -- wherever a check stands in the list
-  none-found : turnCheck (w .last) s .fault ≡ false → repeatCheck (w .last) (w .latest) s .fault ≡ false → NoFault (arrivalChecks w s)
-  unfolding arrivalChecks
-  none-found turn same =
-      let fields = all-passed tt (sizeCheck recordLength s ∷ fieldChecks (w .variant) (decode s)) (value tt) sound .0 in
-      search
+  -- of all checks only 9 and 10 are left
+  turn-decides : decision w s ≡ turnOutcome (w .last) (w .latest) s
+  turn-decides =
+      let passed = all-passed tt (sizeCheck recordLength s ∷ fieldChecks (w .variant) (decode s)) (value tt) sound .0 in
+      let reply = value (turnOf (w .last) s) in
+      decision-parts w s
+      ∙ no-fault-found (memoryChecks w s) (checked (turnsOf w s) (checked (fieldChecks (w .variant) (decode s)) reply)) (fit, (passed .0, tt))
+      ∙ ap (checked (turnsOf w s)) (no-fault-found (fieldChecks (w .variant) (decode s)) reply (passed .1))
 
   next-counts : decode s .number ≡ w .last + 1 → decision w s ≡ value counts
-  unfolding decision
-  next-counts n =
-      let is-next = eq-eqb (decode s .number) (w .last + 1) n in
-      let not-last = ne-eqb (decode s .number) (w .last) (λ e. omega arith) in
-      no-fault-found (arrivalChecks w s) (value (turnOf (w .last) s)) (none-found (rw is-next) (rw not-last)) ∙ rw is-next
+  next-counts n = turn-decides ∙ turn-counts (w .last) (w .latest) s n
 
   latest-repeats : decode s .number ≡ w .last → 0 < w .last → s ≡ w .latest → decision w s ≡ value repeats
-  unfolding decision
   latest-repeats n some e =
-      let is-last = eq-eqb (decode s .number) (w .last) n in
-      let not-next = ne-eqb (decode s .number) (w .last + 1) (λ q. omega arith) in
-      let some-last = ne-eqb (w .last) 0 (λ q. omega arith) in
-      no-fault-found (arrivalChecks w s) (value (turnOf (w .last) s)) (none-found (rw (not-next, some-last, is-last)) (rw (is-last, ← e, same-self s))) ∙ rw not-next
+      turn-decides
+      ∙ turn-repeats (w .last) (w .latest) s (λ q. omega arith) (λ q. omega arith) n (rw (← e) (same-self s))
 
 -- ---- the first fault found
 
@@ -83,7 +78,7 @@ module _ {A : Type 0} (a : A) (k : ℕ) where
         none-before = λ d m. one-more-passes c (r .before) f (r .none-before) d (List·Memᴰ·cases-cons m);
       }
 
-  first-found : (cs : List Check) → checked cs (value a) ≡ refused k → FirstFault cs k
+  pub first-found : (cs : List Check) → checked cs (value a) ≡ refused k → FirstFault cs k
   first-found [] e = let z : _≡_ {A = ℕ} 0 1 = cc in absurd (omega arith)
   first-found (c ∷ cs) e = found-in c cs (c .fault) refl (first-found cs) e
 

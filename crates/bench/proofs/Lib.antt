@@ -10,5 +10,6 @@ pub mod Crossed
 pub mod Pairs
 pub mod Exchange
 pub mod Preview
+pub mod TurnFirst
 pub mod Loops
 pub mod Examples

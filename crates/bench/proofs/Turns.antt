@@ -1,41 +1,148 @@
--- Turns: what is known of a record that counts or is a repeat.
+-- Turns: what checks 9 and 10 answer, what all checks decide part by part, and what is known of a record that counts or is a repeat.
 -- Assumes nothing.
-use mathlib.Core.Path.{_≡_, refl, sym}
-use mathlib.Core.Bool.{Bool, true, false, not, _&&_, _||_}
-use mathlib.Core.Logic.{_⊎_, inl, inr}
-use mathlib.Core.List.{List, [], _∷_}
+use mathlib.Core.Path.{_≡_, refl, sym, ap, _∙_}
+use mathlib.Core.Bool.{Bool, true, false, not, _&&_}
+use mathlib.Core.Logic.{inl, inr}
+use mathlib.Core.List.{List, [], _∷_, _++_}
 use Prim.Native.Nat.{ℕ, _+_, _^_, _<_}
 use native.Mathlib.Omega.{arith}
 use lib.Dec.{eqb}
 use lib.ListN.{length}
-use borrow.Author.Tests.{leb-false, eqb-true, eqb-false, eq-eqb, not-false}
+use borrow.Author.Tests.{leb-false, eqb-true, eqb-false, eq-eqb, ne-eqb, not-false}
 use Rattle.katan.specs.Bit.{pick}
 use Rattle.katan.specs.Variant.{widthOf}
-use Rattle.katan.specs.Checks.{Outcome, value, checked, sizeCheck}
+use Rattle.katan.specs.Checks.{Outcome, value, refused, Check, checked, sizeCheck}
 use Rattle.katan.specs.Sizes.{laneCount}
 use Rattle.bench_record.specs.Fields.{sameBytes, recordLength, decode, kind}
 use Rattle.bench_record.specs.Checks.{nonzero, wrongCount, fieldChecks}
-use Rattle.bench_record.proofs.Same.{same-equal}
+use Rattle.bench_record.proofs.Same.{same-equal, same-self}
 use Rattle.bench_record.proofs.Parts.{number-below}
 use Rattle.bench.specs.Checks.{LaneView, View, benchCheck, turnChecks, arrivalChecks, Turn, counts, repeats, turnOf, decision}
 use Rattle.bench.specs.Claim.{OnlyRepeats}
-use Rattle.katan.proofs.Checked.{NoFault, all-passed, checked-append}
+use Rattle.bench.specs.TurnFirst.{OutOfTurn, OtherBytes, InTurn}
+use Rattle.katan.proofs.Checked.{NoFault, no-fault-found, all-passed, checked-append}
 
--- ---- the tests of checks 9 and 10
-
--- check 9 finds no fault
-in-turn : (n last : ℕ) → not (eqb n (last + 1) || nonzero last && eqb n last) ≡ false → (n ≡ last + 1) ⊎ ((n ≡ last) × (0 < last))
-in-turn n last e = go (eqb n (last + 1)) (eqb last 0) (eqb n last) refl refl refl e
+-- a record that is not the latest one is not taken for it
+pub not-latest : (latest s : List ℕ) → (s ≡ latest → ⊥) → sameBytes latest s ≡ false
+not-latest latest s differs = go (sameBytes latest s) refl
   where
-    go : (a b c : Bool) → eqb n (last + 1) ≡ a → eqb last 0 ≡ b → eqb n last ≡ c → not (a || not b && c) ≡ false → (n ≡ last + 1) ⊎ ((n ≡ last) × (0 < last))
-    go true b c p q r f = inl (eqb-true n (last + 1) p)
-    go false false true p q r f = let h : last ≡ 0 → ⊥ = eqb-false last 0 q in inr (eqb-true n last r, omega arith)
-    go false true c p q r f = let z : _≡_ {A = ℕ} 0 1 = cc in absurd (omega arith)
-    go false false false p q r f = let z : _≡_ {A = ℕ} 0 1 = cc in absurd (omega arith)
+    go : (b : Bool) → sameBytes latest s ≡ b → b ≡ false
+    go true e = absurd (differs (sym (same-equal latest s e)))
+    go false e = refl
 
--- check 10 finds no fault
-same-record : (n last : ℕ) (latest s : List ℕ) → (eqb n last && not (sameBytes latest s)) ≡ false → n ≡ last → s ≡ latest
-same-record n last latest s e h = sym (same-equal latest s (not-false (sameBytes latest s) (rw (eq-eqb n last h) at e)))
+-- ---- what checks 9 and 10 answer, whatever comes after them
+
+neither-number : {A : Type 0} (b : Bool) (x : Outcome A) → pick (not (b && false)) (refused 9) x ≡ refused 9
+neither-number true x = refl
+neither-number false x = refl
+
+module _ {A : Type 0} (last : ℕ) (latest s : List ℕ) (x : Outcome A) where
+  abbrev afterTurn : Outcome A
+  afterTurn = checked (turnChecks last latest s) x
+
+  pub is-next : decode s .number ≡ last + 1 → afterTurn ≡ x
+  is-next e = rw (eq-eqb (decode s .number) (last + 1) e, ne-eqb (decode s .number) last (λ f. omega arith))
+
+  module _ (later : decode s .number ≡ last + 1 → ⊥) where
+    pub none-last : last ≡ 0 → afterTurn ≡ refused 9
+    none-last e = rw (ne-eqb (decode s .number) (last + 1) later, eq-eqb last 0 e)
+
+    pub other-number : (decode s .number ≡ last → ⊥) → afterTurn ≡ refused 9
+    other-number h = rw (ne-eqb (decode s .number) (last + 1) later, ne-eqb (decode s .number) last h) (neither-number (nonzero last) _)
+
+    module _ (some : last ≡ 0 → ⊥) (e : decode s .number ≡ last) where
+      pub is-repeat : sameBytes latest s ≡ true → afterTurn ≡ x
+      is-repeat f = rw (ne-eqb (decode s .number) (last + 1) later, eq-eqb (decode s .number) last e, ne-eqb last 0 some, f)
+
+      pub other-bytes : sameBytes latest s ≡ false → afterTurn ≡ refused 10
+      other-bytes f = rw (ne-eqb (decode s .number) (last + 1) later, eq-eqb (decode s .number) last e, ne-eqb last 0 some, f)
+
+-- and whose turn it is, where they find no fault
+module _ (last : ℕ) (latest s : List ℕ) where
+  abbrev pub turnOutcome : Outcome Turn
+  turnOutcome = checked (turnChecks last latest s) (value (turnOf last s))
+
+  pub turn-counts : decode s .number ≡ last + 1 → turnOutcome ≡ value counts
+  turn-counts e = is-next last latest s (value (turnOf last s)) e ∙ rw (eq-eqb (decode s .number) (last + 1) e)
+
+  pub turn-repeats : (decode s .number ≡ last + 1 → ⊥) → (last ≡ 0 → ⊥) → decode s .number ≡ last → sameBytes latest s ≡ true → turnOutcome ≡ value repeats
+  turn-repeats later some e f = is-repeat last latest s (value (turnOf last s)) later some e f ∙ rw (ne-eqb (decode s .number) (last + 1) later)
+
+-- ---- a record in its turn, out of turn, or with other bytes than the latest
+
+module _ (w : View) (s : List ℕ) where
+  abbrev pub turnsOf : List Check
+  turnsOf = turnChecks (w .last) (w .latest) s
+
+  pub data Standing : Type 0 where
+    stands : InTurn w s → Standing
+    out : OutOfTurn w s → Standing
+    other : OtherBytes w s → Standing
+
+  pub standing : Standing
+  standing = go (eqb (decode s .number) (w .last + 1)) (eqb (w .last) 0) (eqb (decode s .number) (w .last)) (sameBytes (w .latest) s) refl refl refl refl
+    where
+      go : (a b c d : Bool) → eqb (decode s .number) (w .last + 1) ≡ a → eqb (w .last) 0 ≡ b → eqb (decode s .number) (w .last) ≡ c → sameBytes (w .latest) s ≡ d → Standing
+      go true b c d next fresh last bytes = stands (inl (eqb-true (decode s .number) (w .last + 1) next))
+      go false true c d next fresh last bytes =
+          let zero = eqb-true (w .last) 0 fresh in
+          out (eqb-false (decode s .number) (w .last + 1) next, λ some e. omega arith)
+      go false false false d next fresh last bytes =
+          out (eqb-false (decode s .number) (w .last + 1) next, λ some. eqb-false (decode s .number) (w .last) last)
+      go false false true true next fresh last bytes =
+          let h = eqb-false (w .last) 0 fresh in
+          stands (inr (omega arith, eqb-true (decode s .number) (w .last) last, sym (same-equal (w .latest) s bytes)))
+      go false false true false next fresh last bytes =
+          let h = eqb-false (w .last) 0 fresh in
+          other (omega arith, eqb-true (decode s .number) (w .last) last, λ e. let z : _≡_ {A = Bool} true false = sym (same-self s) ∙ ap (λ (l : List ℕ). sameBytes l s) e ∙ bytes in let n : _≡_ {A = ℕ} 0 1 = cc in omega arith)
+
+  module _ {A : Type 0} (x : Outcome A) where
+    pub find-none : InTurn w s → checked turnsOf x ≡ x
+    find-none (inl next) = is-next (w .last) (w .latest) s x next
+    find-none (inr r) =
+        let some = r .0 in
+        let last = r .1 in
+        is-repeat (w .last) (w .latest) s x (λ e. omega arith) (λ e. omega arith) last (ap (λ (l : List ℕ). sameBytes l s) (sym (r .2)) ∙ same-self s)
+
+    pub find-9 : OutOfTurn w s → checked turnsOf x ≡ refused 9
+    find-9 o = go (eqb (w .last) 0) refl
+      where
+        go : (b : Bool) → eqb (w .last) 0 ≡ b → checked turnsOf x ≡ refused 9
+        go true e = none-last (w .last) (w .latest) s x (o .0) (eqb-true (w .last) 0 e)
+        go false e = let h = eqb-false (w .last) 0 e in other-number (w .last) (w .latest) s x (o .0) (o .1 (omega arith))
+
+    pub find-10 : OtherBytes w s → checked turnsOf x ≡ refused 10
+    find-10 o =
+        let some = o .0 in
+        let last = o .1 in
+        other-bytes (w .last) (w .latest) s x (λ e. omega arith) (λ e. omega arith) last (not-latest (w .latest) s (o .2))
+
+  -- checks 9 and 10 find no fault only in a record in its turn
+  in-turn : NoFault turnsOf → InTurn w s
+  in-turn z = go standing
+    where
+      not-found : (k : ℕ) → checked turnsOf (value (tt {0})) ≡ refused k → ⊥
+      not-found k e = let v = sym (no-fault-found turnsOf (value (tt {0})) z) ∙ e in let n : _≡_ {A = ℕ} 0 1 = cc in omega arith
+
+      go : Standing → InTurn w s
+      go (stands i) = i
+      go (out o) = absurd (not-found 9 (find-9 (value (tt {0})) o))
+      go (other o) = absurd (not-found 10 (find-10 (value (tt {0})) o))
+
+-- ---- the checks in parts: 1 and 2, 9 and 10, 3 to 8
+
+module _ (w : View) (s : List ℕ) where
+  -- 1 of the bench, and 2 of the record
+  abbrev pub memoryChecks : List Check
+  memoryChecks = benchCheck (w .variant) (w .lanes) ∷ sizeCheck recordLength s ∷ []
+
+  pub decision-parts : decision w s
+      ≡ checked memoryChecks (checked (turnsOf w s) (checked (fieldChecks (w .variant) (decode s)) (value (turnOf (w .last) s))))
+  unfolding decision arrivalChecks
+  decision-parts = checked-append (memoryChecks ++ turnsOf w s) (fieldChecks (w .variant) (decode s)) (value (turnOf (w .last) s))
+
+  pub decided-1 : benchCheck (w .variant) (w .lanes) .fault ≡ true → decision w s ≡ refused 1
+  decided-1 e = decision-parts ∙ rw e
 
 -- ---- a record that meets none of 1 to 10
 
@@ -45,8 +152,7 @@ pub record Accepted (w : View) (s : List ℕ) : Type 0 where
   pub lane-in : decode s .lane < laneCount
   pub count-in : wrongCount (kind (decode s)) (decode s .count) ≡ false
   pub block-in : decode s .block < 2 ^ widthOf (w .variant)
-  pub turn : (decode s .number ≡ w .last + 1) ⊎ ((decode s .number ≡ w .last) × (0 < w .last))
-  pub same : decode s .number ≡ w .last → s ≡ w .latest
+  pub turn : InTurn w s
 
 module _ (w : View) (s : List ℕ) where
   -- wherever a check stands in the list
@@ -59,8 +165,7 @@ module _ (w : View) (s : List ℕ) where
         lane-in = leb-false laneCount (decode s .lane) search;
         count-in = search;
         block-in = leb-false (2 ^ widthOf (w .variant)) (decode s .block) search;
-        turn = in-turn (decode s .number) (w .last) search;
-        same = same-record (decode s .number) (w .last) (w .latest) s search;
+        turn = in-turn w s search;
       }
 
   -- it counts if numbered last + 1
@@ -84,13 +189,12 @@ module _ (w : View) (s : List ℕ) where
   unfolding decision
   repeats-last e =
       let a = all-passed repeats (arrivalChecks w s) (value (turnOf (w .last) s)) e in
-      go (eqb (decode s .number) (w .last + 1)) refl (a .1) (accepted (a .0) .turn) (accepted (a .0) .same)
+      go (eqb (decode s .number) (w .last + 1)) refl (a .1) (accepted (a .0) .turn)
     where
-      go : (b : Bool) → eqb (decode s .number) (w .last + 1) ≡ b → value (pick b counts repeats) ≡ value repeats
-          → (decode s .number ≡ w .last + 1) ⊎ ((decode s .number ≡ w .last) × (0 < w .last)) → (decode s .number ≡ w .last → s ≡ w .latest) → IsRepeat
-      go true p q t same = let z : _≡_ {A = ℕ} 0 1 = cc in absurd (omega arith)
-      go false p q (inl t) same = absurd (eqb-false (decode s .number) (w .last + 1) p t)
-      go false p q (inr t) same = record { is-last = t .0; some = t .1; is-latest = same (t .0) }
+      go : (b : Bool) → eqb (decode s .number) (w .last + 1) ≡ b → value (pick b counts repeats) ≡ value repeats → InTurn w s → IsRepeat
+      go true p q t = let z : _≡_ {A = ℕ} 0 1 = cc in absurd (omega arith)
+      go false p q (inl t) = absurd (eqb-false (decode s .number) (w .last + 1) p t)
+      go false p q (inr t) = record { is-last = t .1; some = t .0; is-latest = t .2 }
 
 -- while none has counted, what stands for the latest is not looked at
 module _ (v : ℕ) (lanes : List LaneView) (xs ys s : List ℕ) where
@@ -104,15 +208,6 @@ module _ (v : ℕ) (lanes : List LaneView) (xs ys s : List ℕ) where
       go : (b : Bool) → eqb (decode s .number) 0 ≡ b → firstDecision xs ≡ firstDecision ys
       go true e = let n : decode s .number ≡ 0 = eqb-true (decode s .number) 0 e in rw n
       go false e = rw e
-
--- ---- the checks in parts: 1 and 2, 3 to 8, 9 and 10
-
-pub decision-parts : (w : View) (s : List ℕ) → decision w s
-    ≡ checked (benchCheck (w .variant) (w .lanes) ∷ sizeCheck recordLength s ∷ [])
-    (checked (fieldChecks (w .variant) (decode s)) (checked (turnChecks (w .last) (w .latest) s) (value (turnOf (w .last) s))))
-unfolding decision arrivalChecks
-decision-parts w s =
-    checked-append (benchCheck (w .variant) (w .lanes) ∷ sizeCheck recordLength s ∷ fieldChecks (w .variant) (decode s)) (turnChecks (w .last) (w .latest) s) (value (turnOf (w .last) s))
 
 -- THEOREM: at last = 4,294,967,295 only a repeat is in turn
 pub only-repeats : OnlyRepeats

@@ -1,4 +1,4 @@
--- Turned away (document 01): the checks of an arrival and of a read, in its order, and what follows where they find no fault.
+-- Turned away (document 01): the checks of an arrival and of a read, in order, and what follows where they find no fault.
 -- Assumes nothing.
 use Prim.Native.Nat.{ℕ, _+_}
 use mathlib.Core.List.{List, [], _∷_, _++_}
@@ -56,13 +56,13 @@ isEmpty (loadedLane r) = false
 abbrev pub emptyCheck : LaneView → Check
 emptyCheck x = record { number = 11; fault = isEmpty x }
 
--- the checks of an arrival, by rising number: 1, 2 of a record that is not 40 bytes, 3 to 8, 9, 10
+-- the checks of an arrival, in order: 1, 2 of a record that is not 40 bytes, then 9 and 10 (document 02, (vi)), then 3 to 8
 unfoldable pub arrivalChecks : View → List ℕ → List Check
 arrivalChecks w s =
     benchCheck (w .variant) (w .lanes)
     ∷ sizeCheck recordLength s
-    ∷ fieldChecks (w .variant) (decode s)
-    ++ turnChecks (w .last) (w .latest) s
+    ∷ turnChecks (w .last) (w .latest) s
+    ++ fieldChecks (w .variant) (decode s)
 
 -- the checks of a read: 1, 5, 11
 unfoldable pub readChecks : ℕ → List LaneView → ℕ → List Check

@@ -8,4 +8,5 @@ pub mod Claim
 pub mod Laws
 pub mod Exchange
 pub mod Preview
+pub mod TurnFirst
 pub mod inner

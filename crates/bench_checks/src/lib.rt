@@ -1,13 +1,14 @@
-// The checks of an arrival, in document 01's order: the first fault found is answered.
+// The checks of an arrival, in their order: the first fault found is answered.
 ghost use mathlib.Core.Path.{_≡_};
 ghost use Prim.Native.Nat.{ℕ};
-ghost use mathlib.Core.List.{[], _∷_, map};
-ghost use Rattle.katan.specs.Checks.{value, checked};
+ghost use mathlib.Core.List.{List, [], _∷_, map};
+ghost use Rattle.katan.specs.Checks.{value, Check, checked};
 ghost use Rattle.katan.specs.Variant.{widthOf};
 ghost use Rattle.bench_record.specs.Fields.{decode};
 ghost use Rattle.bench.specs.Checks.{laneFault, anyLaneFault, benchCheck, turnChecks, turnOf, decision};
 ghost use Rattle.bench.specs.Bench.{laneView, slotView, benchView};
 ghost use Rattle.bench_checks.specs.Decision.{decisionOutcome};
+ghost use Rattle.bench_checks.specs.inner.Answers.{fieldOutcome};
 use crate::fields::FieldAnswer;
 use crate::fields::field_fault;
 use bench::Bench;
@@ -97,7 +98,7 @@ fn turn(link: Link, fields: Record, sent: &[u8]) -> Decision
         return Decision::Counts;
     }
     if last == 0 {
-        return Decision::Refused(Refusal::OutOfTurn);
+        return Decision::Refused(Refusal::OutOfTurn); // a fresh link has none to repeat
     }
     if number != last {
         return Decision::Refused(Refusal::OutOfTurn);
@@ -109,7 +110,17 @@ fn turn(link: Link, fields: Record, sent: &[u8]) -> Decision
     Decision::Refused(Refusal::OtherBytes)
 }
 
-// Checks 1 to 10.
+// What is decided once the form is known too: the decision before, unless the form has a fault. `form` may be the answer of any checks.
+fn in_form(form: FieldAnswer, before: Decision) -> Decision
+    ensures { λ r. ⌜ ((checks : List Check) → fieldOutcome form ≡ checked checks (value tt) → decisionOutcome r ≡ checked checks (decisionOutcome before)) ⌝ }
+{
+    match form {
+        FieldAnswer::Sound => before,
+        FieldAnswer::Refused(r) => Decision::Refused(r),
+    }
+}
+
+// Checks 1, 2, 9, 10, 3 to 8: a fault of turn comes before one of form.
 fn first_fault(bench: Bench, link: Link, fields: Record, sent: &[u8]) -> Decision
     requires { ⌜ fields ≡ decode (now sent) ⌝ }
     ensures { λ r. ⌜ decisionOutcome r ≡ decision (benchView bench link) (now (sent .entry)) ⌝ }
@@ -121,9 +132,12 @@ fn first_fault(bench: Bench, link: Link, fields: Record, sent: &[u8]) -> Decisio
     if sent.len() != LENGTH {
         return Decision::Refused(Refusal::BadLength);
     }
-    match field_fault(bench.variant, fields) {
-        FieldAnswer::Sound => turn(link, fields, sent),
-        FieldAnswer::Refused(r) => Decision::Refused(r),
+    // Form and turn are found apart; the turn's fault is answered first.
+    let form = field_fault(bench.variant, fields);
+    match turn(link, fields, sent) {
+        Decision::Counts => in_form(form, Decision::Counts),
+        Decision::Repeats => in_form(form, Decision::Repeats),
+        Decision::Refused(r) => Decision::Refused(r),
     }
 }
 

@@ -1,5 +1,5 @@
--- What each call of a driver on a bench answers, and what it leaves in the memory lent to it. The checks go by rising number; a bench of another
--- length is refused by 2 before anything is looked for in it.
+-- What each call of a driver on a bench answers, and what it leaves in the memory lent to it. The checks go by rising number, those of a record as an
+-- arrival makes them; a bench of another length is refused by 2 before anything is looked for in it.
 -- Assumes nothing.
 use Prim.Native.Nat.{ℕ}
 use mathlib.Core.List.{List, [], _∷_, _++_, map}
