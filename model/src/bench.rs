@@ -1,6 +1,6 @@
 //! The bench of 64 lanes and its link: document 01's "One-block machine", "Records and turns" and
-//! checks 1 to 11 of "Turned away". A lane's registers are computed from its key, block, load
-//! position and position whenever it is read; they are not kept.
+//! checks 1 to 11 of "Turned away", in the order of document 02, (vi). A lane's registers are
+//! computed from its key, block, load position and position whenever it is read; they are not kept.
 
 use crate::cipher::{registers_at, Variant, ROUNDS};
 
@@ -244,7 +244,7 @@ impl Bench {
             return Reply::Refused(2);
         };
         let fields = Fields::of(record);
-        for check in 3..=10 {
+        for check in [9, 10, 3, 4, 5, 6, 7, 8] {
             if self.meets(check, &fields, bytes) {
                 return Reply::Refused(check);
             }
@@ -267,7 +267,7 @@ impl Bench {
         }
     }
 
-    /// Whether a record of 40 bytes meets one of the checks 3 to 10, and none before it.
+    /// Whether a record of 40 bytes that meets no earlier check meets this one.
     fn meets(&self, check: u8, record: &Fields, bytes: &[u8]) -> bool {
         let is_move = record.kind == FORWARD || record.kind == BACK;
         let last = self.link.last;
@@ -632,6 +632,10 @@ mod tests {
         record[3] = 1;
         assert_eq!(arrive(&mut bench, &record[..39]), Refused(2));
         assert_eq!(arrive(&mut bench, &[]), Refused(2));
+        assert_eq!(arrive(&mut bench, &record), Refused(9));
+        record[4] = 1;
+        assert_eq!(arrive(&mut bench, &record), Refused(10));
+        record[4] = 2;
         assert_eq!(arrive(&mut bench, &record), Refused(3));
         record[0] = 1;
         assert_eq!(arrive(&mut bench, &record), Refused(4));
@@ -642,39 +646,57 @@ mod tests {
         record[2] = 0;
         assert_eq!(arrive(&mut bench, &record), Refused(7));
         record[30] = 0;
-        assert_eq!(arrive(&mut bench, &record), Refused(9));
-        record[4] = 1;
-        assert_eq!(arrive(&mut bench, &record), Refused(10));
-        record[4] = 2;
         assert_eq!(arrive(&mut bench, &record), done(2, 0));
 
         for kind in [FORWARD, BACK] {
             let last = bench.last();
             let mut record = masked(kind, last + 9, 0, 0);
             record[39] = 1;
+            assert_eq!(arrive(&mut bench, &record), Refused(9));
+            record[4] = last as u8;
+            assert_eq!(arrive(&mut bench, &record), Refused(10));
+            record[4] = last as u8 + 1;
             assert_eq!(arrive(&mut bench, &record), Refused(4));
             record[39] = 0;
             assert_eq!(arrive(&mut bench, &record), Refused(6));
             record[2] = 254;
             assert_eq!(arrive(&mut bench, &record), Refused(8));
             record[8] = 1;
-            assert_eq!(arrive(&mut bench, &record), Refused(9));
-            record[4] = last as u8;
-            assert_eq!(arrive(&mut bench, &record), Refused(10));
-            record[4] = last as u8 + 1;
             assert!(matches!(arrive(&mut bench, &record), Done { .. }));
         }
 
         let last = bench.last();
         let mut record = clear(last + 9, 0);
         record[2] = 255;
+        assert_eq!(arrive(&mut bench, &record), Refused(9));
+        record[4] = last as u8;
+        assert_eq!(arrive(&mut bench, &record), Refused(10));
+        record[4] = last as u8 + 1;
         assert_eq!(arrive(&mut bench, &record), Refused(4));
         record[2] = 0;
         assert_eq!(arrive(&mut bench, &record), Refused(8));
         record[15] = 0x80;
-        assert_eq!(arrive(&mut bench, &record), Refused(9));
-        record[4] = last as u8;
-        assert_eq!(arrive(&mut bench, &record), Refused(10));
+        assert!(matches!(arrive(&mut bench, &record), Done { .. }));
+    }
+
+    /// On a fresh link 40 zero bytes are out of turn before they are of no kind.
+    #[test]
+    fn zero_bytes_on_a_fresh_link() {
+        let mut bench = Bench::new(1).unwrap();
+        assert_eq!(arrive(&mut bench, &[0; 40]), Refused(9));
+        let kind_0 = numbered(&[0; 40], 1);
+        assert_eq!(arrive(&mut bench, &kind_0), Refused(3));
+    }
+
+    /// A link made by hand may remember a faulty record: its exact repeat gets the fault.
+    #[test]
+    fn faulty_record_remembered() {
+        let faulty: [u8; 40] = forward(5, 1, 255).try_into().unwrap();
+        let mut bench = Bench::from_lanes(1, &[None; LANES], 5, &faulty, 9).unwrap();
+        assert_eq!(arrive(&mut bench, &faulty), Refused(6));
+        assert_eq!(arrive(&mut bench, &forward(5, 2, 255)), Refused(10));
+        assert_eq!(arrive(&mut bench, &forward(4, 1, 255)), Refused(9));
+        assert_eq!(arrive(&mut bench, &forward(6, 1, 255)), Refused(6));
     }
 
     /// A block has to be below 2^n.

@@ -8,7 +8,7 @@
 //!   `refused K`.
 
 use crate::bench::{back, clear, forward, load, numbered, Bench, Lane, Reading, Reply, LANES};
-use crate::bench::{BACK, CLEAR, FORWARD, LOAD};
+use crate::bench::{BACK, CLEAR, FORWARD, LOAD, RECORD_LENGTH};
 use crate::cipher::Variant;
 use crate::exchange::{pair, pairs_of_kinds, totals, Met};
 use crate::random::Random;
@@ -95,6 +95,9 @@ pub fn lines() -> Vec<(Call, String)> {
         }
     }
     met.assert_all();
+    for variant in Variant::ALL {
+        lists.turn_before_form(variant);
+    }
     lists.lines
 }
 
@@ -246,6 +249,7 @@ impl Lists {
     fn document_cases(&mut self, variant: Variant) {
         // The link.
         self.open(variant.number());
+        self.arrive(vec![0; RECORD_LENGTH]);
         self.arrive(load(0, 0, 0, &ONES, 0));
         self.arrive(load(1, 0, 0, &ONES, 0));
         self.arrive(forward(3, 1, 5));
@@ -391,7 +395,7 @@ impl Lists {
         self.arrive(latest);
     }
 
-    /// Every two faults that one record of a kind can have. The lesser is the answer.
+    /// Every two faults that one record of a kind can have. The one looked for first is the answer.
     fn pairs_of_faults(&mut self, variant: Variant) {
         self.open_loaded(variant);
         for kind in [LOAD, FORWARD, BACK, CLEAR] {
@@ -403,13 +407,27 @@ impl Lists {
                     }
                     let record = self.spoiled(kind, &[*first, *second]);
                     let reply = self.arrive(record);
-                    assert_eq!(reply, Reply::Refused(*first));
+                    assert_eq!(reply, Reply::Refused(first_of([*first, *second])));
                 }
             }
             self.check_unaltered();
             let record = self.sound(kind);
             self.arrive(record);
         }
+    }
+
+    /// Each fault of form in a record that is out of turn, on a fresh link.
+    fn turn_before_form(&mut self, variant: Variant) {
+        self.open(variant.number());
+        for kind in [LOAD, FORWARD, BACK, CLEAR] {
+            let form = faults(kind, variant);
+            for fault in form.into_iter().filter(|fault| (3..=8).contains(fault)) {
+                let record = self.spoiled(kind, &[fault, 9]);
+                assert_eq!(self.arrive(record), Reply::Refused(9));
+            }
+        }
+        let record = self.sound(LOAD);
+        self.arrive(record);
     }
 
     fn nonzero_byte(&mut self) -> u8 {
@@ -620,6 +638,10 @@ impl Lists {
             6 => {
                 let mut bytes = self.random.bytes(40);
                 bytes[0] = self.random.below(6) as u8;
+                // Half of them in turn, to be looked at further.
+                if bytes[4] % 2 == 0 {
+                    bytes = numbered(&bytes, self.next());
+                }
                 bytes
             }
             _ => self.sound(kind),
@@ -710,6 +732,12 @@ fn faults(kind: u8, variant: Variant) -> Vec<u8> {
         FORWARD | BACK => vec![2, 3, 4, 6, 8, 9, 10],
         _ => vec![2, 3, 4, 8, 9, 10],
     }
+}
+
+/// Of two faults, the one that is looked for first: 2, then 9 and 10, then 3 to 8.
+fn first_of(faults: [u8; 2]) -> u8 {
+    let order = [2, 9, 10, 3, 4, 5, 6, 7, 8];
+    *order.iter().find(|fault| faults.contains(fault)).unwrap()
 }
 
 #[cfg(test)]

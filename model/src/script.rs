@@ -257,9 +257,10 @@ mod tests {
         assert_eq!(printed(1, "(read 64)"), "(refused 5)");
         assert_eq!(printed(1, "(read 0)"), "(refused 11)");
         assert_eq!(printed(7, "(read 0)"), "(refused 13)");
-        let load =
-            "(4294967295 (load 255 255 (key ffffffffffffffffffff) (block ffffffffffffffff)))";
+        let load = "(1 (load 255 255 (key ffffffffffffffffffff) (block ffffffffffffffff)))";
         assert_eq!(printed(3, load), "(refused 5)");
+        let late = load.replacen('1', "4294967295", 1);
+        assert_eq!(printed(3, &late), "(refused 9)");
         assert_eq!(
             printed(3, "(1 (forward (lanes 0000000000000000) 0))"),
             "(refused 6)"

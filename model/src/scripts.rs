@@ -148,6 +148,29 @@ impl Scripts {
         }
     }
 
+    /// Lines with a fault of form, as a resend, out of turn and in turn.
+    fn garbled_lines(&mut self) {
+        for variant in Variant::ALL {
+            self.line(format!("(bench {})", variant.number()));
+            let block = "5".repeat(variant.width() as usize / 4);
+            let load = |number, lane, position| {
+                let key = "0123456789abcdef0123";
+                format!("({number} (load {lane} {position} (key {key}) (block {block})))")
+            };
+            self.line(load(1, 5, 9));
+            self.line("(2 (forward (lanes 0000000000000020) 127))");
+            for number in [2, 0, 1, 4, u32::MAX, 3] {
+                self.line(load(number, 64, 9));
+                self.line(load(number, 5, 255));
+                self.line(format!("({number} (forward (lanes 0000000000000020) 0))"));
+                self.line(format!("({number} (back (lanes 0000000000000000) 1))"));
+                self.line(format!("({number} (clear (lanes 0000000000000000)))"));
+            }
+            self.line("(read 5)");
+            self.line("(2 (forward (lanes 0000000000000020) 127))");
+        }
+    }
+
     fn random_lines(&mut self, lines: usize) {
         for _ in 0..lines {
             if self.random.below(3) == 0 {
@@ -188,6 +211,7 @@ pub fn input() -> Vec<u8> {
     }
     scripts.long_lines();
     scripts.every_variant();
+    scripts.garbled_lines();
     for number in 1..=6 {
         scripts.line(format!("(bench {number})"));
         scripts.random_lines(500);
