@@ -1,6 +1,6 @@
 // A bench is opened and a lane loaded. The step is previewed, and the lane has not moved; a garbled copy of the step is previewed too. Then the
-// lane is stepped; the answer to the step is lost, so the step is sent once more, and the lane is read. Then the load, the step and the read
-// as one list of calls.
+// lane is stepped; the answer to the step is lost, so the step is sent once more: first garbled on its way, which gets 10, since a record of
+// that number has counted, then whole. The lane is read. Then the load, the step and the read as one list of calls.
 #include "katan_bench.h"
 
 #include <stdio.h>
@@ -58,6 +58,13 @@ static void send(const uint8_t *record) {
     printf("\n");
 }
 
+// Sends a record that is to be refused.
+static void send_refused(const uint8_t *record) {
+    uint32_t answer[KATAN_ARRIVAL_WORDS];
+    printf("status %d\n", katan_arrive(bench, sizeof bench, linked, sizeof linked, record, KATAN_RECORD_LENGTH, answer,
+                                       KATAN_ARRIVAL_WORDS));
+}
+
 // What a record would be answered, and lane 0, which is loaded, as it would leave it.
 static void preview(const uint8_t *record) {
     static uint8_t room[KATAN_BENCH_LENGTH];
@@ -104,6 +111,7 @@ int main(void) {
     read_lane(0);
     preview(garbled);
     send(step);
+    send_refused(garbled);
     send(step);
     read_lane(0);
     read_lane(1);

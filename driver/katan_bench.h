@@ -3,10 +3,11 @@
  * shows them in use.
  *
  * Status. Each call but katan_version and katan_cycles returns 0, or the number of the first fault found. The faults
- * are looked for by rising number, as each call says under "Checked", with two exceptions: katan_arrive, katan_preview
- * and katan_read look at the bench's length (2), then at the bench (1), then at the other lengths (2); katan_keystream
- * looks for 14 before 7. A refused call leaves all lent memory as it was, with one exception: katan_preview writes its
- * room also where it is refused, unless bench or room has another length.
+ * are looked for by rising number, as each call says under "Checked", with three exceptions: katan_arrive, katan_preview
+ * and katan_read look at the bench's length (2), then at the bench (1), then at the other lengths (2); katan_arrive and
+ * katan_preview look at a record's turn (9, 10) before its form (3 to 8); katan_keystream looks for 14 before 7. A
+ * refused call leaves all lent memory as it was, with one exception: katan_preview writes its room also where it is
+ * refused, unless bench or room has another length.
  *
  * Slices. A slice is lent as a pointer and then its length, in elements, not in bytes. A length other than the one
  * named at the call gets KATAN_BAD_LENGTH; data too long for a keystream gets KATAN_BEYOND_END. A pointer is aligned
@@ -39,7 +40,7 @@ extern "C" {
  * The version of this header: it rises with every new call, and with every change of a call's parameters, its numbers
  * or a layout. A driver compares it with katan_version(), which the archive was built with.
  */
-#define KATAN_VERSION 4
+#define KATAN_VERSION 5
 
 /* The variants. The number in a name is n, the bits of a block: 32, 48 or 64. */
 #define KATAN32 1
@@ -151,10 +152,13 @@ extern "C" {
  *     bytes 8 to 47          the last counted record, with its key if it is a load
  *
  * Of a link only the length is checked, and what it holds is taken at its word, also where last, total and record never
- * belonged together. The checks 3 to 8 are of the record alone. Then a record is in turn if numbered last + 1; one
- * numbered last, where last is not 0, gets KATAN_OTHER_BYTES unless it has the link's record byte for byte, and is then
- * answered with the link's total; while last is 0, record and total are not looked at. No link makes a faulty record
- * count. What is proved of lists of calls holds of a bench and a link that katan_open and katan_arrive left.
+ * belonged together. A record is in turn if numbered last + 1, or if numbered last, where last is not 0, with the link's
+ * record byte for byte. One numbered a nonzero last with other bytes gets KATAN_OTHER_BYTES, any other that is not in
+ * turn KATAN_OUT_OF_TURN; while last is 0, record and total are not looked at. The checks 3 to 8 are of the record alone
+ * and come after, so a record that gets one of them is in turn: also the exact repeat of a faulty record that a link made
+ * by hand holds. A record in turn that meets none of them counts, or, as a repeat, is answered with the link's total. No
+ * link makes a faulty record count. What is proved of lists of calls holds of a bench and a link that katan_open and
+ * katan_arrive left.
  */
 #define KATAN_LANE_EMPTY 0
 #define KATAN_LANE_LOADED 1
@@ -248,7 +252,8 @@ uint8_t katan_open(uint8_t variant, uint8_t *bench, size_t bench_length, uint8_t
  *     KATAN_AGAIN, number, total    an exact repeat of the last that counted; bench and link are as they were
  * The total is the sum, over the lanes named, of the positions that they really moved, and 0 for a load and a clear. A
  * lane that is cleared keeps its bytes but for the state, its key too; the link keeps the record, a load's key too.
- * Checked: 2 of `bench`; 1; 2 of `link`, `answer` and `record`; 3 to 10.
+ * Checked: 2 of `bench`; 1; 2 of `link`, `answer` and `record`; 9, 10; 3 to 8. So a resend of the last record that
+ * counted, garbled but for its length and its number, gets 10, whatever its form: that number has been done.
  */
 uint8_t katan_arrive(uint8_t *bench, size_t bench_length, uint8_t *link, size_t link_length,
                      const uint8_t *record, size_t record_length, uint32_t *answer, size_t answer_length);
@@ -270,7 +275,7 @@ uint8_t katan_arrive(uint8_t *bench, size_t bench_length, uint8_t *link, size_t 
  * the room in the bench's place the link would not know the record, and it would be done twice.
  *
  * The status is katan_arrive's but for the room: one of another length gets 2 after 1, also where the record would
- * count. Checked: 2 of `bench`; 1; 2 of `link`, `answer`, `room` and `record`; 3 to 10.
+ * count. Checked: 2 of `bench`; 1; 2 of `link`, `answer`, `room` and `record`; 9, 10; 3 to 8.
  */
 uint8_t katan_preview(const uint8_t *bench, size_t bench_length, const uint8_t *link, size_t link_length,
                       const uint8_t *record, size_t record_length, uint32_t *answer, size_t answer_length,

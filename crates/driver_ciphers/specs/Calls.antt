@@ -8,7 +8,7 @@ use Rattle.katan_rate.specs.Rate.{rateAnswer}
 
 -- the version of the driver's calls: it rises with every new call, and with every change of a call's parameters, its numbers or a layout
 abbrev pub interfaceVersion : ℕ
-interfaceVersion = 4
+interfaceVersion = 5
 
 -- the lent memory that holds a word
 abbrev pub word : ℕ → List ℕ

@@ -18,7 +18,7 @@ use lanes::Direction;
 const ACCEPTED: u8 = 0;
 
 // The version of the calls: which there are, their parameters, numbers and layouts.
-const VERSION: u32 = 4;
+const VERSION: u32 = 5;
 
 // The answer of a call that gives one word.
 enum WordAnswer {

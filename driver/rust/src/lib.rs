@@ -20,7 +20,7 @@ pub mod raw;
 
 /// The version of the calls that this crate was written for: it rises with every new call, and with
 /// every change of a call's parameters, its numbers or a layout.
-pub const VERSION: u32 = 4;
+pub const VERSION: u32 = 5;
 
 /// The version of the calls that the archive was built with.
 ///
@@ -312,6 +312,31 @@ impl Bench {
     }
 
     /// A record of any bytes and length arrives. Only one that is `Done` alters bench and link.
+    ///
+    /// The turn is looked at before the form. So a resend of the last record that counted, garbled but for
+    /// its length and number, is refused as `OtherBytes`, and a refusal for its form says that a record is in
+    /// its turn:
+    ///
+    /// ```
+    /// use katan_bench::{record, Bench, Refusal, Reply};
+    ///
+    /// let mut bench = Bench::open(1)?;
+    /// let step = record::forward(1, 1, 5);
+    /// let mut garbled = step;
+    /// garbled[0] = 9;
+    ///
+    /// // Number 1 has not counted yet: the record is in its turn, and its form is wrong.
+    /// assert_eq!(bench.arrive(&garbled), Err(Refusal::BadKind));
+    /// assert_eq!(bench.arrive(&step), Ok(Reply::Done { number: 1, total: 0 }));
+    ///
+    /// // Now it has, with other bytes.
+    /// assert_eq!(bench.arrive(&garbled), Err(Refusal::OtherBytes));
+    /// assert_eq!(bench.arrive(&step), Ok(Reply::Again { number: 1, total: 0 }));
+    ///
+    /// // On a fresh link number 0 is out of turn, whatever the kind.
+    /// assert_eq!(Bench::open(1)?.arrive(&[0; 40]), Err(Refusal::OutOfTurn));
+    /// # Ok::<(), Refusal>(())
+    /// ```
     pub fn arrive(&mut self, sent: &[u8]) -> Result<Reply, Refusal> {
         let mut answer = [0; 3];
         let status = raw::arrive(&mut self.bench, &mut self.link, sent, &mut answer);

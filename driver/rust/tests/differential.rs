@@ -8,7 +8,7 @@ use common::{
     variant, width, with_previews, Event,
 };
 use katan_bench::raw::{self, BENCH_LENGTH, LINK_LENGTH};
-use katan_bench::{replay, Call};
+use katan_bench::{replay, Answer, Call, Refusal};
 use katan_model::calls::Direction;
 use katan_model::{bench as records, driver as model, Random, Reply, Variant};
 
@@ -441,6 +441,137 @@ fn pairs_of_faults() {
         seen[2..=10].iter().all(|count| *count > 0) && seen[0] > 0,
         "{seen:?}"
     );
+}
+
+/// A change of a record, and the number of the first of 3 to 8 that it then meets.
+type FormFault = (u8, fn(&mut [u8]));
+
+/// Faults of form of every number that a record of a kind can have.
+fn form_faults(kind: u8, variant: u8) -> Vec<FormFault> {
+    let mut faults: Vec<FormFault> = vec![
+        (3, |sent| sent[0] = 0),
+        (3, |sent| sent[0] = 5),
+        (4, |sent| sent[3] = 1),
+        (4, |sent| sent[39] = 128),
+    ];
+    if kind == records::LOAD {
+        faults.push((4, |sent| sent[8] = 1));
+        faults.push((5, |sent| sent[1] = 64));
+        faults.push((6, |sent| sent[2] = 255));
+        if width(variant) < 64 {
+            faults.push((7, |sent| sent[33] = 1));
+        }
+    } else {
+        faults.push((4, |sent| sent[1] = 1));
+        faults.push((4, |sent| sent[16] = 1));
+        faults.push((8, |sent| sent[8..16].fill(0)));
+    }
+    if kind == records::CLEAR {
+        faults.push((4, |sent| sent[2] = 1));
+    } else if kind != records::LOAD {
+        faults.push((6, |sent| sent[2] = 0));
+        faults.push((6, |sent| sent[2] = 255));
+    }
+    faults
+}
+
+/// Every fault of form in a record that is out of turn, has other bytes than the last counted one, is in
+/// turn, or is what a link made by hand remembers: 9, 10 or the fault itself, as the header says; and 1 and
+/// 2 before all of them. The record is previewed, sent, and replayed where its link is its calls' own.
+#[test]
+fn turn_before_form() {
+    let mut seen = [[0; 11]; 9];
+    for variant in 1..=6 {
+        let counted = [
+            records::load(1, 5, 100, &[0x5a; 10], 77),
+            records::forward(2, 0x21, 9),
+        ];
+        for last in [0, 2, u32::MAX - 1, u32::MAX] {
+            let (mut bench, mut link) = (vec![0; BENCH_LENGTH], vec![0; LINK_LENGTH]);
+            assert_eq!(raw::open(variant, &mut bench, &mut link), 0);
+            let list = &counted[..last.min(2) as usize];
+            for sent in list {
+                assert_eq!(raw::arrive(&mut bench, &mut link, sent, &mut [0; 3]), 0);
+            }
+            link[..4].copy_from_slice(&last.to_le_bytes());
+            let mut damaged = bench.clone();
+            damaged[1] = 2;
+            let sound = [
+                records::load(0, 63, 254, &[0xa5; 10], 99),
+                records::forward(0, 0x20, 7),
+                records::back(0, 0x20, 7),
+                records::clear(0, 0x20),
+            ];
+            for (record, number) in sound.iter().flat_map(|record| {
+                [0, 1, 2, 3, 4, 256, u32::MAX - 1, u32::MAX].map(|number| (record, number))
+            }) {
+                for (fault, spoil) in form_faults(record[0], variant) {
+                    let mut sent = records::numbered(record, number);
+                    spoil(&mut sent);
+                    let expected = if number as u64 == last as u64 + 1 {
+                        fault
+                    } else if number == last && last != 0 {
+                        10
+                    } else {
+                        9
+                    };
+                    refused_by_all((&bench, &link), &sent, expected);
+                    refused_by_all((&bench, &link), &sent[..39], 2);
+                    refused_by_all((&damaged, &link), &sent, 1);
+                    refused_by_all((&damaged, &link), &sent[..39], 1);
+                    seen[fault as usize][expected as usize] += 1;
+                    if last == list.len() as u32 {
+                        let calls: Vec<Call> = [list, &[sent.clone()]]
+                            .concat()
+                            .into_iter()
+                            .map(Call::Arrive)
+                            .collect();
+                        let refusal = Refusal::from_number(expected).unwrap();
+                        let (answers, left) = replay(variant, &calls).unwrap();
+                        assert_eq!(
+                            answers.last(),
+                            Some(&Answer::Refused(refusal)),
+                            "{sent:02x?}"
+                        );
+                        assert!(left[..] == bench[..], "variant {variant}, {sent:02x?}");
+                    }
+                    // A link that remembers this very record.
+                    if number == last && last != 0 {
+                        let mut by_hand = link.clone();
+                        by_hand[8..].copy_from_slice(&sent);
+                        refused_by_all((&bench, &by_hand), &sent, fault);
+                        for at in [0, 3, 8, 15, 16, 25, 26, 39] {
+                            let mut near = sent.clone();
+                            near[at] ^= 64;
+                            refused_by_all((&bench, &by_hand), &near, 10);
+                        }
+                    }
+                }
+            }
+        }
+    }
+    for (fault, turns) in seen.iter().enumerate().skip(3) {
+        let met = turns[9] > 0 && turns[10] > 0 && turns[fault] > 0;
+        assert!(met, "{fault}: {turns:?}");
+    }
+}
+
+/// A record is refused with this number by the driver's arrival and preview and by the model's, and
+/// nothing is altered; the preview's room has the bench's own bytes.
+fn refused_by_all((bench, link): (&[u8], &[u8]), sent: &[u8], check: u8) {
+    let context = format!("{sent:02x?} on {:02x?} {link:02x?}", &bench[..1]);
+    for arrive in [raw::arrive, model::arrive] {
+        let (mut lent, mut answer) = ((bench.to_vec(), link.to_vec()), [7; 3]);
+        let status = arrive(&mut lent.0, &mut lent.1, sent, &mut answer);
+        assert_eq!((status, answer), (check, [7; 3]), "{context}");
+        assert!(lent.0 == bench && lent.1 == link, "{context}: altered");
+    }
+    for preview in [raw::preview, model::preview] {
+        let (mut answer, mut room) = ([7; 3], vec![0x99; BENCH_LENGTH]);
+        let status = preview(bench, link, sent, &mut answer, &mut room);
+        assert_eq!((status, answer), (check, [7; 3]), "{context}: previewed");
+        assert!(room == bench, "{context}: {room:02x?}");
+    }
 }
 
 /// What goes wrong with a list, if anything does: call by call with the bench handed back and forth and
