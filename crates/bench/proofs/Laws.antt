@@ -16,44 +16,44 @@ use Rattle.katan.specs.Variant.{widthOf}
 use Rattle.katan.specs.Machine.{registersAt}
 use Rattle.katan.specs.Checks.{Outcome, value, refused, Check, checked, sizeCheck}
 use Rattle.katan.specs.Sizes.{laneCount}
-use Rattle.katan.proofs.Checked.{no-fault-found, all-passed}
+use Rattle.katan.proofs.Checked.{NoFault, no-fault-found, all-passed}
 use Rattle.katan.proofs.KeyNumbers.{number-of-key}
 use Rattle.katan.proofs.Positions.{at-load}
 use Rattle.bench_record.specs.declared.Record.{Record}
 use Rattle.bench_record.specs.Fields.{Kind, forward, back, kindByte, kindOf, namesAs, recordLength, decode}
 use Rattle.bench_record.specs.Codec.{encode, loadRecord, moveRecord}
 use Rattle.bench_record.specs.Checks.{fieldChecks}
-use Rattle.bench_record.proofs.Same.{same-self}
 use Rattle.bench.specs.Machine.{Machine, empty, loaded, stepAs, machineStep, totalOf}
 use Rattle.bench.specs.Calls.{Call, arrival, reading, done, again, Answer, stateAfter, answersTo}
 use Rattle.bench.specs.Checks.{View, benchCheck, arrivalChecks, Turn, counts, repeats, turnOf, decision}
 use Rattle.bench.specs.Model.{Model, freshModel, machineView, modelView, afterCounted, arrivalAs, modelTransition, madeBy}
 use Rattle.bench.specs.Claim.{benchAnswers, modelAnswers, modelAfter, countedRecords, laneAfter}
+use Rattle.bench.specs.TurnFirst.{InTurn}
 use Rattle.bench.specs.Laws.{SoundRecord, FirstFault, andArrival, CountsNext, AnsweredAgain, laneShows, loadCall, moveCall, Laws}
 use Rattle.bench.proofs.Calls.{state-more, answers-more}
-use Rattle.bench.proofs.Turns.{turnOutcome, turn-counts, turn-repeats, turnsOf, memoryChecks, decision-parts, counts-next}
+use Rattle.bench.proofs.Turns.{turn-of-next, turn-of-other, turnsOf, passes, counts-next}
 use Rattle.bench.proofs.Lists.{every-list}
 use Rattle.bench.proofs.Written.{load-back, move-back, in-word, lane-mask, own-bit, load-sound, forward-sound, back-sound}
 
--- ---- a sound record
+-- ---- no check finds a fault
 
 module _ (w : View) (s : List ℕ) (fit : benchCheck (w .variant) (w .lanes) .fault ≡ false) (sound : SoundRecord (w .variant) s) where
-  -- of all checks only 9 and 10 are left
-  turn-decides : decision w s ≡ turnOutcome (w .last) (w .latest) s
-  turn-decides =
-      let passed = all-passed tt (sizeCheck recordLength s ∷ fieldChecks (w .variant) (decode s)) (value tt) sound .0 in
-      let reply = value (turnOf (w .last) s) in
-      decision-parts w s
-      ∙ no-fault-found (memoryChecks w s) (checked (turnsOf w s) (checked (fieldChecks (w .variant) (decode s)) reply)) (fit, (passed .0, tt))
-      ∙ ap (checked (turnsOf w s)) (no-fault-found (fieldChecks (w .variant) (decode s)) reply (passed .1))
+  -- wherever a check stands in the list
+  none-found : NoFault (turnsOf w s) → NoFault (arrivalChecks w s)
+  unfolding arrivalChecks
+  none-found turn =
+      let fields = all-passed tt (sizeCheck recordLength s ∷ fieldChecks (w .variant) (decode s)) (value tt) sound .0 in
+      search
 
-  next-counts : decode s .number ≡ w .last + 1 → decision w s ≡ value counts
-  next-counts n = turn-decides ∙ turn-counts (w .last) (w .latest) s n
+  in-its-turn : InTurn w s → decision w s ≡ value (turnOf (w .last) s)
+  unfolding decision
+  in-its-turn i = no-fault-found (arrivalChecks w s) (value (turnOf (w .last) s)) (none-found (passes w s i))
+
+  is-next : decode s .number ≡ w .last + 1 → decision w s ≡ value counts
+  is-next n = in-its-turn (inl n) ∙ ap value (turn-of-next (w .last) (w .latest) s n)
 
   latest-repeats : decode s .number ≡ w .last → 0 < w .last → s ≡ w .latest → decision w s ≡ value repeats
-  latest-repeats n some e =
-      turn-decides
-      ∙ turn-repeats (w .last) (w .latest) s (λ q. omega arith) (λ q. omega arith) n (rw (← e) (same-self s))
+  latest-repeats n some e = in-its-turn (inr (some, n, e)) ∙ ap value (turn-of-other (w .last) (w .latest) s (λ q. omega arith))
 
 -- ---- the first fault found
 
@@ -206,7 +206,7 @@ module _ (v : ℕ) (least : 1 ≤ v) (most : v ≤ 6) where
     module _ (sound : SoundRecord v s) (n : decode s .number ≡ length (countedRecords v calls) + 1) where
       next-now : turnNow v calls s ≡ value counts
       unfolding modelView
-      next-now = next-counts (modelView v (modelAfter v calls)) s (every-list v least most calls .no-check-1) sound n
+      next-now = is-next (modelView v (modelAfter v calls)) s (every-list v least most calls .no-check-1) sound n
 
       pub next-leaves : modelAfter v (andArrival calls s) ≡ afterCounted (modelAfter v calls) s
       next-leaves = counts-leaves v calls s next-now

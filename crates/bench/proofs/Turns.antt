@@ -30,7 +30,25 @@ not-latest latest s differs = go (sameBytes latest s) refl
     go true e = absurd (differs (sym (same-equal latest s e)))
     go false e = refl
 
--- ---- what checks 9 and 10 answer, whatever comes after them
+-- ---- checks 9 and 10 find no fault in the next record, and in a repeat
+
+module _ (last : ℕ) (latest s : List ℕ) where
+  pub next-passes : decode s .number ≡ last + 1 → NoFault (turnChecks last latest s)
+  next-passes e = (rw (eq-eqb (decode s .number) (last + 1) e), (rw (ne-eqb (decode s .number) last (λ f. omega arith)), tt))
+
+  pub turn-of-next : decode s .number ≡ last + 1 → turnOf last s ≡ counts
+  turn-of-next e = rw (eq-eqb (decode s .number) (last + 1) e)
+
+  module _ (later : decode s .number ≡ last + 1 → ⊥) where
+    pub repeat-passes : (last ≡ 0 → ⊥) → decode s .number ≡ last → sameBytes latest s ≡ true → NoFault (turnChecks last latest s)
+    repeat-passes some e f =
+        let is-last = eq-eqb (decode s .number) last e in
+        (rw (ne-eqb (decode s .number) (last + 1) later, ne-eqb last 0 some, is-last), (rw (is-last, f), tt))
+
+    pub turn-of-other : turnOf last s ≡ repeats
+    turn-of-other = rw (ne-eqb (decode s .number) (last + 1) later)
+
+-- ---- what they answer, whatever comes after them
 
 neither-number : {A : Type 0} (b : Bool) (x : Outcome A) → pick (not (b && false)) (refused 9) x ≡ refused 9
 neither-number true x = refl
@@ -40,9 +58,6 @@ module _ {A : Type 0} (last : ℕ) (latest s : List ℕ) (x : Outcome A) where
   abbrev afterTurn : Outcome A
   afterTurn = checked (turnChecks last latest s) x
 
-  pub is-next : decode s .number ≡ last + 1 → afterTurn ≡ x
-  is-next e = rw (eq-eqb (decode s .number) (last + 1) e, ne-eqb (decode s .number) last (λ f. omega arith))
-
   module _ (later : decode s .number ≡ last + 1 → ⊥) where
     pub none-last : last ≡ 0 → afterTurn ≡ refused 9
     none-last e = rw (ne-eqb (decode s .number) (last + 1) later, eq-eqb last 0 e)
@@ -50,12 +65,8 @@ module _ {A : Type 0} (last : ℕ) (latest s : List ℕ) (x : Outcome A) where
     pub other-number : (decode s .number ≡ last → ⊥) → afterTurn ≡ refused 9
     other-number h = rw (ne-eqb (decode s .number) (last + 1) later, ne-eqb (decode s .number) last h) (neither-number (nonzero last) _)
 
-    module _ (some : last ≡ 0 → ⊥) (e : decode s .number ≡ last) where
-      pub is-repeat : sameBytes latest s ≡ true → afterTurn ≡ x
-      is-repeat f = rw (ne-eqb (decode s .number) (last + 1) later, eq-eqb (decode s .number) last e, ne-eqb last 0 some, f)
-
-      pub other-bytes : sameBytes latest s ≡ false → afterTurn ≡ refused 10
-      other-bytes f = rw (ne-eqb (decode s .number) (last + 1) later, eq-eqb (decode s .number) last e, ne-eqb last 0 some, f)
+    pub other-bytes : (last ≡ 0 → ⊥) → decode s .number ≡ last → sameBytes latest s ≡ false → afterTurn ≡ refused 10
+    other-bytes some e f = rw (ne-eqb (decode s .number) (last + 1) later, eq-eqb (decode s .number) last e, ne-eqb last 0 some, f)
 
 -- and whose turn it is, where they find no fault
 module _ (last : ℕ) (latest s : List ℕ) where
@@ -63,10 +74,12 @@ module _ (last : ℕ) (latest s : List ℕ) where
   turnOutcome = checked (turnChecks last latest s) (value (turnOf last s))
 
   pub turn-counts : decode s .number ≡ last + 1 → turnOutcome ≡ value counts
-  turn-counts e = is-next last latest s (value (turnOf last s)) e ∙ rw (eq-eqb (decode s .number) (last + 1) e)
+  turn-counts e = no-fault-found (turnChecks last latest s) (value (turnOf last s)) (next-passes last latest s e) ∙ ap value (turn-of-next last latest s e)
 
   pub turn-repeats : (decode s .number ≡ last + 1 → ⊥) → (last ≡ 0 → ⊥) → decode s .number ≡ last → sameBytes latest s ≡ true → turnOutcome ≡ value repeats
-  turn-repeats later some e f = is-repeat last latest s (value (turnOf last s)) later some e f ∙ rw (ne-eqb (decode s .number) (last + 1) later)
+  turn-repeats later some e f =
+      no-fault-found (turnChecks last latest s) (value (turnOf last s)) (repeat-passes last latest s later some e f)
+      ∙ ap value (turn-of-other last latest s later)
 
 -- ---- a record in its turn, out of turn, or with other bytes than the latest
 
@@ -96,13 +109,16 @@ module _ (w : View) (s : List ℕ) where
           let h = eqb-false (w .last) 0 fresh in
           other (omega arith, eqb-true (decode s .number) (w .last) last, λ e. let z : _≡_ {A = Bool} true false = sym (same-self s) ∙ ap (λ (l : List ℕ). sameBytes l s) e ∙ bytes in let n : _≡_ {A = ℕ} 0 1 = cc in omega arith)
 
+  pub passes : InTurn w s → NoFault turnsOf
+  passes (inl next) = next-passes (w .last) (w .latest) s next
+  passes (inr r) =
+      let some = r .0 in
+      let last = r .1 in
+      repeat-passes (w .last) (w .latest) s (λ e. omega arith) (λ e. omega arith) last (ap (λ (l : List ℕ). sameBytes l s) (sym (r .2)) ∙ same-self s)
+
   module _ {A : Type 0} (x : Outcome A) where
     pub find-none : InTurn w s → checked turnsOf x ≡ x
-    find-none (inl next) = is-next (w .last) (w .latest) s x next
-    find-none (inr r) =
-        let some = r .0 in
-        let last = r .1 in
-        is-repeat (w .last) (w .latest) s x (λ e. omega arith) (λ e. omega arith) last (ap (λ (l : List ℕ). sameBytes l s) (sym (r .2)) ∙ same-self s)
+    find-none i = no-fault-found turnsOf x (passes i)
 
     pub find-9 : OutOfTurn w s → checked turnsOf x ≡ refused 9
     find-9 o = go (eqb (w .last) 0) refl
