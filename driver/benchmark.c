@@ -140,6 +140,36 @@ static void message_table(size_t length) {
     }
 }
 
+// ---- where a bit came from
+
+static void origin_table(void) {
+    printf("\nWhere a bit came from: fa and fb of clock %d\n", KATAN_LAST_CLOCK);
+    printf("variant   times as fast as plain C   (ns)\n");
+    for (int variant = 1; variant <= 6; variant++) {
+        uint64_t found[KATAN_ORIGIN_WORDS], found_by_c[KATAN_ORIGIN_WORDS];
+        double ours = 1e18, plain = 1e18;
+        fill(variant);
+        for (int i = 0; i < LANES; i++) {
+            for (int clock = 0; clock <= KATAN_LAST_CLOCK; clock++) {
+                must(katan_origin(variant, keys + 10 * i, 10, blocks[i], clock, found, KATAN_ORIGIN_WORDS) == 0, "a clock was refused");
+                peer_origin(variant, keys + 10 * i, blocks[i], clock, found_by_c);
+                must(memcmp(found, found_by_c, sizeof found) == 0, "results differ");
+            }
+        }
+        for (int repeat = 0; repeat < 10 * REPEATS; repeat++) {
+            double a = nanoseconds();
+            must(katan_origin(variant, keys, 10, blocks[0], KATAN_LAST_CLOCK, found, KATAN_ORIGIN_WORDS) == 0, "a clock was refused");
+            double b = nanoseconds();
+            peer_origin(variant, keys, blocks[0], KATAN_LAST_CLOCK, found_by_c);
+            double c = nanoseconds();
+            must(memcmp(found, found_by_c, sizeof found) == 0, "results differ");
+            if (b - a < ours) ours = b - a;
+            if (c - b < plain) plain = c - b;
+        }
+        printf("%-9d %-26.2f %.0f\n", variant, plain / ours, ours);
+    }
+}
+
 // ---- the bench: arrivals and reads
 
 static uint8_t bench[KATAN_BENCH_LENGTH], kept[KATAN_BENCH_LENGTH];
@@ -335,6 +365,7 @@ int main(void) {
     blocks_table(0);
     blocks_table(1);
     message_table(KATAN_LONGEST_DATA);
+    origin_table();
     bench_table();
     preview_table();
     sheet_table();

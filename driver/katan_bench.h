@@ -3,11 +3,11 @@
  * shows them in use.
  *
  * Status. Each call but katan_version and katan_cycles returns 0, or the number of the first fault found. The faults
- * are looked for by rising number, as each call says under "Checked", with three exceptions: katan_arrive, katan_preview
+ * are looked for by rising number, as each call says under "Checked", with four exceptions: katan_arrive, katan_preview
  * and katan_read look at the bench's length (2), then at the bench (1), then at the other lengths (2); katan_arrive and
- * katan_preview look at a record's turn (9, 10) before its form (3 to 8); katan_keystream looks for 14 before 7. A
- * refused call leaves all lent memory as it was, with one exception: katan_preview writes its room also where it is
- * refused, unless bench or room has another length.
+ * katan_preview look at a record's turn (9, 10) before its form (3 to 8); katan_keystream looks for 14 before 7, and
+ * katan_origin for 15 before 7. A refused call leaves all lent memory as it was, with one exception: katan_preview
+ * writes its room also where it is refused, unless bench or room has another length.
  *
  * Slices. A slice is lent as a pointer and then its length, in elements, not in bytes. A length other than the one
  * named at the call gets KATAN_BAD_LENGTH; data too long for a keystream gets KATAN_BEYOND_END. A pointer is aligned
@@ -23,7 +23,7 @@
  *
  * Stack. A call needs up to 42 kB, measured on x86-64 without what a dynamic linker takes: katan_keystream 42,
  * katan_encrypt_many and katan_decrypt_many 40, katan_replay 36, katan_preview 30, katan_arrive 28, katan_read 13,
- * every other under 3.
+ * katan_origin 4, every other under 3.
  * The archive calls the C library's memcpy and memset.
  */
 #ifndef KATAN_BENCH_H
@@ -40,7 +40,7 @@ extern "C" {
  * The version of this header: it rises with every new call, and with every change of a call's parameters, its numbers
  * or a layout. A driver compares it with katan_version(), which the archive was built with.
  */
-#define KATAN_VERSION 5
+#define KATAN_VERSION 6
 
 /* The variants. The number in a name is n, the bits of a block: 32, 48 or 64. */
 #define KATAN32 1
@@ -66,8 +66,8 @@ extern "C" {
 #define KATAN_BAD_POSITION 6    /* a load position is over 254, or a move count is 0 or over 254 (katan_arrive,
                                    katan_preview) */
 #define KATAN_BAD_BLOCK 7       /* a block, or the start of a keystream, is 2^n or more, never so where n is 64
-                                   (katan_encrypt, katan_decrypt, both for many blocks, katan_keystream, katan_arrive,
-                                   katan_preview) */
+                                   (katan_encrypt, katan_decrypt, both for many blocks, katan_keystream, katan_origin,
+                                   katan_arrive, katan_preview) */
 #define KATAN_EMPTY_MASK 8      /* the mask of a move or clear is 0 (katan_arrive, katan_preview) */
 #define KATAN_OUT_OF_TURN 9     /* the number is neither last + 1 nor a nonzero last; numbers do not wrap, and after
                                    4,294,967,295 no further record counts (katan_arrive, katan_preview) */
@@ -76,8 +76,10 @@ extern "C" {
 #define KATAN_BAD_RATE 12       /* the clock rate is 0 or over KATAN_HIGHEST_RATE (katan_bit_rate) */
 #define KATAN_BEYOND_END 14     /* the start plus the number of blocks exceeds 2^n, or the data is longer than
                                    KATAN_LONGEST_DATA (katan_keystream) */
+#define KATAN_BAD_CLOCK 15      /* the clock number is over KATAN_LAST_CLOCK (katan_origin) */
 
 #define KATAN_ROUNDS 254                /* positions are 0 to 254: the rounds that a block has behind it */
+#define KATAN_LAST_CLOCK 23             /* clock numbers are 0 to 23, and are no positions (katan_origin) */
 #define KATAN_LANES 64                  /* of a bench, and the most blocks of a call for many */
 #define KATAN_HIGHEST_RATE 2940000000u  /* in hertz */
 
@@ -91,9 +93,10 @@ extern "C" {
 #define KATAN_CALL_HEAD_LENGTH 5     /* of a call in a list: a read is these alone, an arrival's record follows them */
 #define KATAN_CALL_ANSWER_LENGTH 13  /* of an answer to a list */
 
-/* Lengths in elements: of uint32_t, and of uint64_t. */
+/* Lengths in elements: the first of uint32_t, the others of uint64_t. */
 #define KATAN_ARRIVAL_WORDS 3
 #define KATAN_READING_WORDS 2
+#define KATAN_ORIGIN_WORDS 3
 
 /*
  * A record, of KATAN_RECORD_LENGTH bytes. Numbers are low byte first.
@@ -226,6 +229,29 @@ uint8_t katan_decrypt_many(uint8_t variant, const uint8_t *keys, size_t keys_len
  */
 uint8_t katan_keystream(uint8_t variant, const uint8_t *key, size_t key_length, uint64_t start,
                         const uint8_t *data, size_t data_length, uint8_t *out, size_t out_length);
+
+/*
+ * Where a bit came from: the two bits that enter the registers at a clock, found by following each back to the block,
+ * which is in the registers at position 0. `key` has KATAN_KEY_LENGTH bytes, `out` has KATAN_ORIGIN_WORDS elements. On
+ * status 0 they are
+ *     fa       the bit that enters L2, which is the low 19, 29 or 39 bits of the registers, where n is 32, 48 or 64
+ *     fb       the bit that enters L1, which is the bits above
+ *     count    the block bits looked up, for fa and fb added
+ *
+ * `clock` counts clocks from 0, the first of round 0. A round has 1, 2 or 3 of them, where n is 32, 48 or 64, so clocks
+ * 0 to KATAN_LAST_CLOCK are the first 24, 12 or 8 rounds: a clock number is not a position.
+ *
+ * fa of a clock is made from five places of L1 and fb from six of L2, with IR and the key bits of its round. Before
+ * clock t, place i of L1 holds fb of clock t - 1 - i where i is below t, and otherwise bit i - t of the block's L1; L2
+ * holds fa, or a bit of the block's L2, in the same way. A bit of the block counts 1; one that entered counts what the
+ * bits it was made from count, each time it is met, since nothing is remembered. All five places and all six are
+ * followed at every clock, the fifth of L1 also where IR is 0 and it has no effect. So the count depends on n and the
+ * clock alone: at KATAN_LAST_CLOCK it is 957, 147 or 61.
+ *
+ * Checked: 1; 2 of `key` and `out`; 15; 7.
+ */
+uint8_t katan_origin(uint8_t variant, const uint8_t *key, size_t key_length, uint64_t block, uint64_t clock,
+                     uint64_t *out, size_t out_length);
 
 /*
  * The cycles that a number of blocks takes: 255 for each, one for loading and its 254 rounds. It has no status, and is

@@ -115,6 +115,70 @@ void peer_keystream(int variant, const u8 *key, u64 start, const u8 *data, u8 *o
     }
 }
 
+// ---- fa and fb of a clock, followed back: a bit, and how many block bits were looked up for it
+
+typedef struct {
+    u64 bit, count;
+} traced;
+
+typedef struct {
+    int len2, clocks, x[5], y[6];
+} taps;
+
+typedef struct {
+    const taps *taps;
+    int variant;
+    const u8 *key;
+    u64 block;
+} source;
+
+static u64 round_key(const source *s, int i) {
+    int number = s->variant <= 3 ? i : key_bit[i];  // the first 24 rounds of KATAN take key bits 0 to 47
+    return BIT(s->key[number / 8], number % 8);
+}
+
+static traced fb_at(const source *s, int t);
+
+static traced fa_at(const source *s, int t) {
+    const taps *p = s->taps;
+    int r = t / p->clocks;
+    traced l[5];
+    u64 count = 0;
+    for (int j = 0; j < 5; j++) {
+        int i = p->x[j];
+        l[j] = i < t ? fb_at(s, t - 1 - i) : (traced){BIT(s->block, p->len2 + i - t), 1};
+        count += l[j].count;
+    }
+    u64 bit = l[0].bit ^ l[1].bit ^ (l[2].bit & l[3].bit) ^ (l[4].bit & ir[r]) ^ round_key(s, 2 * r);
+    return (traced){bit, count};
+}
+
+static traced fb_at(const source *s, int t) {
+    const taps *p = s->taps;
+    traced l[6];
+    u64 count = 0;
+    for (int j = 0; j < 6; j++) {
+        int i = p->y[j];
+        l[j] = i < t ? fa_at(s, t - 1 - i) : (traced){BIT(s->block, i - t), 1};
+        count += l[j].count;
+    }
+    u64 bit = l[0].bit ^ l[1].bit ^ (l[2].bit & l[3].bit) ^ (l[4].bit & l[5].bit) ^ round_key(s, 2 * (t / p->clocks) + 1);
+    return (traced){bit, count};
+}
+
+void peer_origin(int variant, const u8 *key, u64 block, int clock, u64 *out) {
+    static const taps rows[] = {
+        {19, 1, {12, 7, 8, 5, 3}, {18, 7, 12, 10, 8, 3}},
+        {29, 2, {18, 12, 15, 7, 6}, {28, 19, 21, 13, 15, 6}},
+        {39, 3, {24, 15, 20, 11, 9}, {38, 25, 33, 21, 14, 9}},
+    };
+    source s = {&rows[(variant - 1) % 3], variant, key, block};
+    traced a = fa_at(&s, clock), b = fb_at(&s, clock);
+    out[0] = a.bit;
+    out[1] = b.bit;
+    out[2] = a.count + b.count;
+}
+
 // ---- bit-sliced, in the way of the ciphers' authors: word i of a register holds bit i of all lanes
 
 INLINE void sliced_rounds(int len1, int len2, int x2, int x3, int x4, int x5, int y2, int y3, int y4, int y5, int y6, int clocks,

@@ -28,6 +28,9 @@ uint64_t peer_one(int variant, int decrypt, const uint8_t *key, uint64_t block);
 // once. Elements 508i to 508i + 507 of the sheet are block i's registers after each round.
 void peer_sheet(int variant, const uint8_t *keys, const uint64_t *blocks, uint64_t *sheet, size_t count);
 
+// fa and fb of a clock, followed back to the block by two functions that call each other, and the block bits looked up.
+void peer_origin(int variant, const uint8_t *key, uint64_t block, int clock, uint64_t *out);
+
 // Counter mode with peer_scalar's code, one block at a time: the key bits are made once for the message.
 void peer_keystream(int variant, const uint8_t *key, uint64_t start, const uint8_t *data, uint8_t *out, size_t length);
 

@@ -1,8 +1,9 @@
 //! The calls of one cipher as a caller makes them, with the checks of document 01's "Turned away"
-//! that apply, and 14 of document 02: by rising number, but 14 before 7; the first fault found is
-//! the answer.
+//! that apply, and 14 and 15 of document 02: by rising number, but 14 and 15 before 7; the first fault
+//! found is the answer.
 
 use crate::cipher::{decrypt, encrypt, registers_at, Variant, ROUNDS};
+use crate::origin::{origin, Origin};
 use crate::stream::{blocks_of, keystream};
 
 /// A refusal's number.
@@ -47,6 +48,18 @@ fn checked_end(variant: Variant, start: u64, length: usize) -> Result<(), Refusa
         Err(Refusal(14))
     } else {
         Ok(())
+    }
+}
+
+/// The last clock whose bits are followed.
+pub const LAST_CLOCK: u64 = 23;
+
+/// 15: a clock number is over 23.
+fn checked_clock(clock: u64) -> Result<usize, Refusal> {
+    if clock <= LAST_CLOCK {
+        Ok(clock as usize)
+    } else {
+        Err(Refusal(15))
     }
 }
 
@@ -115,6 +128,27 @@ pub fn call_keystream(
     Ok(())
 }
 
+/// The bits of a clock followed back to the block: fa, fb and the count of block bits looked up into
+/// `out`, or the first fault in the order 1, 2, 15, 7.
+pub fn call_origin(
+    variant: u8,
+    key: &[u8],
+    block: u64,
+    clock: u64,
+    out: &mut [u64],
+) -> Result<(), Refusal> {
+    let variant = checked_variant(variant)?;
+    let key = checked_key(key)?;
+    if out.len() != 3 {
+        return Err(Refusal(2));
+    }
+    let clock = checked_clock(clock)?;
+    let block = checked_block(variant, block)?;
+    let Origin { fa, fb, looked_up } = origin(variant, key, block, clock);
+    out.copy_from_slice(&[fa as u64, fb as u64, looked_up]);
+    Ok(())
+}
+
 pub fn call_registers_at(
     variant: u8,
     key: &[u8; 10],
@@ -167,6 +201,44 @@ mod tests {
                 "variant {variant}, start {start:x}, {length} bytes"
             );
             assert!(number == 0 || out.iter().all(|byte| *byte == 7));
+        }
+    }
+
+    /// Request (vii)'s limits: variant, bytes of the key, block, clock, words of the output, and the
+    /// refusal's number or 0.
+    #[test]
+    fn which_clocks_are_followed() {
+        let cases = [
+            (1, 10, 0, 0, 3, 0),
+            (1, 10, 0xffff_ffff, 23, 3, 0),
+            (1, 10, 0, 24, 3, 15),
+            (6, 10, u64::MAX, 23, 3, 0),
+            (6, 10, u64::MAX, 24, 3, 15),
+            (2, 10, 0, 256, 3, 15),
+            (3, 10, 0, 1 << 32, 3, 15),
+            (4, 10, 0, (1 << 32) + 5, 3, 15),
+            (5, 10, 0, u64::MAX, 3, 15),
+            (1, 10, 1 << 32, 23, 3, 7),
+            (1, 10, 1 << 32, 24, 3, 15),
+            (5, 10, 1 << 48, 0, 3, 7),
+            (5, 10, 1 << 48, u64::MAX, 3, 15),
+            (1, 9, 0, 0, 3, 2),
+            (1, 11, 0, 24, 3, 2),
+            (1, 10, 0, 0, 2, 2),
+            (1, 10, 1 << 32, 24, 4, 2),
+            (0, 10, 0, 0, 3, 1),
+            (7, 9, 0, 24, 2, 1),
+        ];
+        for (variant, key_length, block, clock, out_length, expected) in cases {
+            let mut out = vec![7; out_length];
+            let answer = call_origin(variant, &vec![1; key_length], block, clock, &mut out);
+            let number = answer.map_or_else(|Refusal(number)| number, |()| 0);
+            assert_eq!(
+                number, expected,
+                "variant {variant}, {key_length} bytes, block {block:x}, clock {clock}, \
+                 {out_length} words"
+            );
+            assert_eq!(number == 0, out != vec![7; out_length]);
         }
     }
 }

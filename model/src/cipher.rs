@@ -53,7 +53,7 @@ impl Variant {
     }
 
     /// x1 to x5, at indices 1 to 5.
-    fn x(self) -> [usize; 6] {
+    pub(crate) fn x(self) -> [usize; 6] {
         match self {
             Katan32 | Ktantan32 => [0, 12, 7, 8, 5, 3],
             Katan48 | Ktantan48 => [0, 18, 12, 15, 7, 6],
@@ -62,7 +62,7 @@ impl Variant {
     }
 
     /// y1 to y6, at indices 1 to 6.
-    fn y(self) -> [usize; 7] {
+    pub(crate) fn y(self) -> [usize; 7] {
         match self {
             Katan32 | Ktantan32 => [0, 18, 7, 12, 10, 8, 3],
             Katan48 | Ktantan48 => [0, 28, 19, 21, 13, 15, 6],
@@ -70,7 +70,7 @@ impl Variant {
         }
     }
 
-    fn clocks_a_round(self) -> u32 {
+    pub(crate) fn clocks_a_round(self) -> u32 {
         match self {
             Katan32 | Ktantan32 => 1,
             Katan48 | Ktantan48 => 2,
@@ -112,7 +112,7 @@ fn tick(t: [u8; 8]) -> [u8; 8] {
 }
 
 /// T in a round: all ones, clocked once before round 0 and once after each round.
-fn counter(round: u8) -> [u8; 8] {
+pub(crate) fn counter(round: u8) -> [u8; 8] {
     let mut t = tick([1; 8]);
     for _ in 0..round {
         t = tick(t);
@@ -122,9 +122,9 @@ fn counter(round: u8) -> [u8; 8] {
 
 /// The two subkey bits of a round.
 #[derive(Clone, Copy, Debug, PartialEq, Eq)]
-struct Subkey {
-    ka: u8,
-    kb: u8,
+pub(crate) struct Subkey {
+    pub(crate) ka: u8,
+    pub(crate) kb: u8,
 }
 
 /// KATAN: k_i is key bit i for i below 80, then k_(i-80) xor k_(i-61) xor k_(i-50) xor k_(i-13).
@@ -173,7 +173,7 @@ fn ktantan_subkey(key: &[u8; 10], round: u8) -> Subkey {
 }
 
 /// The subkey bits of rounds 0 to 253. In KATAN those of round i are k_2i and k_(2i+1).
-fn subkeys(variant: Variant, key: &[u8; 10]) -> Vec<Subkey> {
+pub(crate) fn subkeys(variant: Variant, key: &[u8; 10]) -> Vec<Subkey> {
     if variant.is_katan() {
         let k = katan_sequence(key);
         (0..ROUNDS as usize)
@@ -191,13 +191,13 @@ fn subkeys(variant: Variant, key: &[u8; 10]) -> Vec<Subkey> {
 
 /// L1 and L2; index i is bit i.
 #[derive(Clone, Debug, PartialEq, Eq)]
-struct Registers {
-    l1: Vec<u8>,
-    l2: Vec<u8>,
+pub(crate) struct Registers {
+    pub(crate) l1: Vec<u8>,
+    pub(crate) l2: Vec<u8>,
 }
 
 /// Block bit 0 is L2 bit 0; L1 bit 0 follows L2's highest bit.
-fn load(variant: Variant, block: u64) -> Registers {
+pub(crate) fn load(variant: Variant, block: u64) -> Registers {
     let (length1, length2) = variant.register_lengths();
     Registers {
         l1: (0..length1).map(|i| bit(block, length2 + i)).collect(),
@@ -214,7 +214,7 @@ fn unload(registers: &Registers) -> u64 {
 }
 
 /// One clock: both functions of the old registers, then both shifts; fb enters L1, fa enters L2.
-fn clock(variant: Variant, ir: u8, k: Subkey, old: &Registers) -> Registers {
+pub(crate) fn clock(variant: Variant, ir: u8, k: Subkey, old: &Registers) -> Registers {
     let (x, y) = (variant.x(), variant.y());
     let (l1, l2) = (&old.l1, &old.l2);
     let fa = l1[x[1]] ^ l1[x[2]] ^ (l1[x[3]] & l1[x[4]]) ^ (l1[x[5]] & ir) ^ k.ka;

@@ -2,7 +2,9 @@
 //! layout that the driver's header documents.
 
 use crate::bench::{Bench, Lane, Reading, Reply, LANES, RECORD_LENGTH};
-use crate::calls::{call_decrypt, call_encrypt, call_keystream, call_many, Direction, Refusal};
+use crate::calls::{
+    call_decrypt, call_encrypt, call_keystream, call_many, call_origin, Direction, Refusal,
+};
 use crate::cipher::Variant;
 
 /// A lane: its state, 0 empty and 1 loaded; its position; its key; its registers.
@@ -128,6 +130,11 @@ pub fn many(direction: Direction, variant: u8, keys: &[u8], blocks: &[u64], out:
 
 pub fn keystream(variant: u8, key: &[u8], start: u64, data: &[u8], out: &mut [u8]) -> u8 {
     status(call_keystream(variant, key, start, data, out).map_err(number))
+}
+
+/// The output is fa, fb and the count of block bits looked up.
+pub fn origin(variant: u8, key: &[u8], block: u64, clock: u64, out: &mut [u64]) -> u8 {
+    status(call_origin(variant, key, block, clock, out).map_err(number))
 }
 
 /// A block is loaded in one cycle, and has 254 rounds.

@@ -8,6 +8,7 @@ pub mod cipher;
 pub mod driver;
 pub mod exchange;
 pub mod lists;
+pub mod origin;
 pub mod random;
 pub mod script;
 pub mod scripts;

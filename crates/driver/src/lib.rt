@@ -6,7 +6,7 @@ ghost use Rattle.lanes.specs.Many.{manyAnswer, manyOf};
 ghost use Rattle.lanes.specs.declared.Direction.the-variants.{Encrypt, Decrypt};
 ghost use Rattle.lanes_keystream.specs.Stream.{streamAnswer, streamOf};
 ghost use Rattle.katan_rate.specs.Rate.{cyclesOf};
-ghost use Rattle.driver_ciphers.specs.Calls.{interfaceVersion, word, encryptCall, decryptCall, rateCall};
+ghost use Rattle.driver_ciphers.specs.Calls.{interfaceVersion, word, encryptCall, decryptCall, rateCall, clockWords, originCall};
 ghost use Rattle.driver_bench.specs.Calls.{openCall, openedBench, openedLink, responseWords, readCall, arriveCall, arrivedBench, arrivedLink, arrivedAnswer, previewCall, previewedAnswer, previewedRoom, replayCall, replayedBench, replayedAnswers};
 
 // The version of these calls.
@@ -76,6 +76,21 @@ pub extern "C" fn katan_keystream(
     ensures { λ r. ⌜ now (out .exit) ≡ streamOf variant (now (key .entry)) start (now (message .entry)) (now (out .entry)) ⌝ }
 {
     driver_ciphers::keystream(variant, key, start, message, out)
+}
+
+// fa and fb of a clock, followed back to the block, and the block bits looked up, into the three words of `out`.
+#[no_mangle]
+pub extern "C" fn katan_origin(
+    variant: u8,
+    key: &[u8],
+    block: u64,
+    clock: u64,
+    out: &mut [u64],
+) -> u8
+    ensures { λ r. ⌜ r ≡ statusOf (originCall variant (now (key .entry)) block clock (now (out .entry))) ⌝ }
+    ensures { λ r. ⌜ now (out .exit) ≡ lentAfter clockWords (originCall variant (now (key .entry)) block clock (now (out .entry))) (now (out .entry)) ⌝ }
+{
+    driver_ciphers::origin(variant, key, block, clock, out)
 }
 
 // The cycles that a number of blocks takes.

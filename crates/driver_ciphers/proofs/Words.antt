@@ -1,21 +1,43 @@
--- The word written over lent memory of one, and what a call with one word leaves.
+-- What a call with words lent for its answer leaves, by what was found of variant and lent memory.
 -- Assumes nothing.
-use mathlib.Core.Path.{_≡_, sym, subst, _∙_}
-use mathlib.Core.List.{List, [], _∷_}
+use mathlib.Core.Path.{_≡_, sym, ap, subst, _∙_}
+use mathlib.Core.Bool.{Bool, true, false, not}
+use mathlib.Core.List.{List}
 use Prim.Native.Nat.{ℕ}
 use native.Mathlib.Omega.{arith}
-use lib.ListN.{length, set, length-set}
-use lib.Seq.{take-all, take-suc-set}
-use Rattle.katan.specs.Checks.{Outcome}
+use lib.Dec.{T, eqb, eqb→eq}
+use lib.ListN.{length}
+use Rattle.katan.specs.Checks.{Outcome, value, refused, numberOf, Check, checked}
 use Rattle.katan.specs.Lent.{statusOf, lentAfter}
-use Rattle.driver_ciphers.specs.Calls.{word, wordCall}
+use Rattle.katan.specs.declared.Refusal.{Refusal}
+use Rattle.katan.proofs.Checked.{NoFault, all-passed, no-fault-found, fault-found}
+use Rattle.driver_ciphers.specs.Calls.{lentChecks}
+use Rattle.driver_ciphers.specs.inner.Words.{lentOutcome}
+use Rattle.driver_ciphers.specs.declared.Lent.{Lent}
+use Rattle.driver_ciphers.specs.declared.Lent.the-variants.{Sound, Refused}
 
-pub one-word : (x : ℕ) (out : List ℕ) → length out ≡ 1 → set out 0 x ≡ x ∷ []
-one-word x out h = sym (take-all 1 (set out 0 x) (simp length-set (omega arith))) ∙ take-suc-set out 0 x (omega arith)
+module _ {A : Type 0} (f : A → List ℕ) (cs : List Check) (out : List ℕ) where
+  abbrev Leaves : ℕ → (new : List ℕ) → Outcome A → Type 0
+  Leaves r new o = (r ≡ statusOf (checked cs o)) × (new ≡ lentAfter f (checked cs o) out)
 
-abbrev Leaves : ℕ → (out : List ℕ) → ℕ → (new : List ℕ) → Outcome ℕ → Type 0
-Leaves v out r new o = (r ≡ statusOf (wordCall v out o)) × (new ≡ lentAfter word (wordCall v out o) out)
+  -- what is left for an answer is left for what the answer says
+  pub answered : {a b : Outcome A} {r : ℕ} {new : List ℕ} → a ≡ b → Leaves r new a → Leaves r new b
+  answered {r = r} {new} e g = subst (Leaves r new) e g
 
--- what is left for an answer is left for what the answer says
-pub answered : (v : ℕ) (out : List ℕ) {a b : Outcome ℕ} {r : ℕ} {new : List ℕ} → a ≡ b → Leaves v out r new a → Leaves v out r new b
-answered v out {r = r} {new} e g = subst (Leaves v out r new) e g
+not-false : (b : Bool) → not b ≡ false → T b
+not-false true e = tt
+not-false false e = let z : _≡_ {A = ℕ} 0 1 = cc in absurd (omega arith)
+
+-- the checks of variant and lent memory come first
+module _ (v n : ℕ) (out : List ℕ) (l : Lent) (e : lentOutcome l ≡ checked (lentChecks v n out) (value tt)) where
+  none : l ≡ Sound → NoFault (lentChecks v n out)
+  none s = all-passed tt (lentChecks v n out) (value tt) (sym e ∙ ap lentOutcome s) .0
+
+  pub lent-length : l ≡ Sound → length out ≡ n
+  lent-length s = eqb→eq (length out) n (not-false (eqb (length out) n) (none s .1 .0))
+
+  pub passes : {A : Type 0} (o : Outcome A) → l ≡ Sound → checked (lentChecks v n out) o ≡ o
+  passes o s = no-fault-found (lentChecks v n out) o (none s)
+
+  pub refuses : {A : Type 0} (o : Outcome A) (r : Refusal) → l ≡ Refused r → checked (lentChecks v n out) o ≡ refused (numberOf r)
+  refuses o r s = fault-found tt o (numberOf r) (lentChecks v n out) (sym e ∙ ap lentOutcome s)

@@ -1,15 +1,23 @@
-// The calls of a driver on one block, on many blocks, on a message and on the rate: numbers, and lent slices. Each returns 0 or the number of the
+// The calls of a driver on one block, on many blocks, on a message, on a clock's bits and on the rate: numbers, and lent slices. Each returns 0 or the number of the
 // first fault found, and a refused call leaves every lent output as it was.
 ghost use mathlib.Core.Path.{_≡_};
+ghost use mathlib.Core.List.{List};
+ghost use Prim.Native.Nat.{ℕ};
+ghost use lib.ListN.{length as lengthOf};
+ghost use Rattle.katan.specs.Checks.{value, checked};
 ghost use Rattle.katan.specs.Lent.{statusOf, lentAfter};
 ghost use Rattle.katan_registers.specs.Answers.{blockOutcome};
 ghost use Rattle.lanes.specs.Many.{manyOutcome, manyAnswer, manyOf};
 ghost use Rattle.lanes.specs.declared.Direction.the-variants.{Encrypt, Decrypt};
 ghost use Rattle.lanes_keystream.specs.Stream.{streamAnswer, streamOf};
+ghost use Rattle.katan_origin.specs.Origin.{originOutcome};
 ghost use Rattle.katan_rate.specs.Rate.{cyclesOf, rateOutcome};
-ghost use Rattle.driver_ciphers.specs.Calls.{interfaceVersion, word, wordCall, encryptCall, decryptCall, rateCall};
-ghost use Rattle.driver_ciphers.specs.inner.Words.{wordOutcome};
+ghost use Rattle.driver_ciphers.specs.Calls.{interfaceVersion, lentChecks, word, wordCall, encryptCall, decryptCall, rateCall, originWords, clockWords, originCall};
+ghost use Rattle.driver_ciphers.specs.inner.Words.{wordOutcome, lentOutcome};
+use katan::ClockNumber;
 use katan::Refusal;
+use katan_origin::ClockBits;
+use katan_origin::OriginAnswer;
 use katan_rate::RateAnswer;
 use katan_variants::refusal_number;
 use lanes::Direction;
@@ -18,7 +26,10 @@ use lanes::Direction;
 const ACCEPTED: u8 = 0;
 
 // The version of the calls: which there are, their parameters, numbers and layouts.
-const VERSION: u32 = 5;
+const VERSION: u32 = 6;
+
+// The words of an answer on a clock's bits.
+const ORIGIN_WORDS: usize = 3;
 
 // The answer of a call that gives one word.
 enum WordAnswer {
@@ -44,23 +55,39 @@ fn rate_word(answer: RateAnswer) -> WordAnswer
     }
 }
 
-// Checks 1 and 2 of a call that has one word lent for its answer; then the answer.
+// Whether the variant and the memory lent for an answer are sound.
+enum Lent {
+    Sound,
+    Refused(Refusal),
+}
+
+// Checks 1 and 2 of a call that has so many words lent for its answer, and their number.
+fn checked_lent(variant: u8, words: usize, length: usize) -> Lent
+    ensures { λ r. ⌜ ((out : List ℕ) → lengthOf out ≡ length → lentOutcome r ≡ checked (lentChecks variant words out) (value tt)) ⌝ }
+{
+    if katan_variants::bad_variant(variant) {
+        return Lent::Refused(Refusal::BadVariant);
+    }
+    if length != words {
+        return Lent::Refused(Refusal::BadLength);
+    }
+    Lent::Sound
+}
+
+// An answer of one word, where variant and lent memory are sound and the call is not refused.
 fn put_word(variant: u8, answer: WordAnswer, out: &mut [u64]) -> u8
     ensures { λ r. ⌜ r ≡ statusOf (wordCall variant (now (out .entry)) (wordOutcome answer)) ⌝ }
     ensures { λ r. ⌜ now (out .exit) ≡ lentAfter word (wordCall variant (now (out .entry)) (wordOutcome answer)) (now (out .entry)) ⌝ }
 {
-    if katan_variants::bad_variant(variant) {
-        return refusal_number(Refusal::BadVariant);
-    }
-    if out.len() != 1 {
-        return refusal_number(Refusal::BadLength);
-    }
-    match answer {
-        WordAnswer::Given(x) => {
-            out[0] = x;
-            ACCEPTED
-        }
-        WordAnswer::Refused(r) => refusal_number(r),
+    match checked_lent(variant, 1, out.len()) {
+        Lent::Sound => match answer {
+            WordAnswer::Given(x) => {
+                out[0] = x;
+                ACCEPTED
+            }
+            WordAnswer::Refused(r) => refusal_number(r),
+        },
+        Lent::Refused(r) => refusal_number(r),
     }
 }
 
@@ -121,6 +148,42 @@ pub fn keystream(variant: u8, key: &[u8], start: u64, message: &[u8], out: &mut 
     ensures { λ r. ⌜ now (out .exit) ≡ streamOf variant (now (key .entry)) start (now (message .entry)) (now (out .entry)) ⌝ }
 {
     status(lanes_keystream::keystream(variant, key, start, message, out))
+}
+
+// The two bits of a clock and the block bits looked up for them.
+fn put_clock(bits: ClockBits, out: &mut [u64])
+    requires { ⌜ lengthOf (now out) ≡ originWords ⌝ }
+    ensures { λ r. ⌜ now (out .exit) ≡ clockWords bits ⌝ }
+{
+    out[0] = bits.fa;
+    out[1] = bits.fb;
+    out[2] = bits.looked_up;
+}
+
+// The same, where variant and lent memory are sound and the call is not refused.
+fn put_bits(variant: u8, answer: OriginAnswer, out: &mut [u64]) -> u8
+    ensures { λ r. ⌜ r ≡ statusOf (checked (lentChecks variant originWords (now (out .entry))) (originOutcome answer)) ⌝ }
+    ensures { λ r. ⌜ now (out .exit) ≡ lentAfter clockWords (checked (lentChecks variant originWords (now (out .entry))) (originOutcome answer)) (now (out .entry)) ⌝ }
+{
+    match checked_lent(variant, ORIGIN_WORDS, out.len()) {
+        Lent::Sound => match answer {
+            OriginAnswer::Found(bits) => {
+                put_clock(bits, out);
+                ACCEPTED
+            }
+            OriginAnswer::Refused(r) => refusal_number(r),
+        },
+        Lent::Refused(r) => refusal_number(r),
+    }
+}
+
+// fa and fb of a clock, followed back to the block, and the block bits looked up, into the three words of `out`.
+pub fn origin(variant: u8, key: &[u8], block: u64, clock: u64, out: &mut [u64]) -> u8
+    ensures { λ r. ⌜ r ≡ statusOf (originCall variant (now (key .entry)) block clock (now (out .entry))) ⌝ }
+    ensures { λ r. ⌜ now (out .exit) ≡ lentAfter clockWords (originCall variant (now (key .entry)) block clock (now (out .entry))) (now (out .entry)) ⌝ }
+{
+    let found = katan_origin::origin(variant, key, block, ClockNumber(clock as usize));
+    put_bits(variant, found, out)
 }
 
 // The cycles that a number of blocks takes.

@@ -1,5 +1,4 @@
 mod Turns
-pub mod Words
 pub mod Fitted
 pub mod ReadBack
 pub mod Fits

@@ -1,6 +1,6 @@
 -- The first fault found, of any list of checks.
 -- Assumes nothing.
-use mathlib.Core.Path.{_≡_, refl, ap}
+use mathlib.Core.Path.{_≡_, refl, ap, _∙_}
 use mathlib.Core.Bool.{Bool, true, false}
 use mathlib.Core.List.{List, [], _∷_, _++_}
 use Prim.Native.Nat.{ℕ}
@@ -28,6 +28,10 @@ NoFault (c ∷ cs) = (c .fault ≡ false) × NoFault cs
 pub no-fault-found : {A : Type 0} (cs : List Check) (r : Outcome A) → NoFault cs → checked cs r ≡ r
 no-fault-found [] r z = refl
 no-fault-found (c ∷ cs) r z = rw (z .0) (no-fault-found cs r (z .1))
+
+-- a fault that is found after checks that find none
+pub fault-after : {A : Type 0} (cs : List Check) (c : Check) (ds : List Check) (r : Outcome A) → NoFault cs → c .fault ≡ true → checked (cs ++ c ∷ ds) r ≡ refused (c .number)
+fault-after cs c ds r z e = checked-append cs (c ∷ ds) r ∙ no-fault-found cs (checked (c ∷ ds) r) z ∙ fault-first c ds r e
 
 module _ {A : Type 0} (a : A) where
   passed : (k : ℕ) (rest : Outcome A) (b : Bool) → pick b (refused k) rest ≡ value a → (b ≡ false) × (rest ≡ value a)

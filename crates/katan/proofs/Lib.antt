@@ -2,6 +2,7 @@ pub mod Bits
 pub mod Tables
 pub mod Fill
 pub mod Bytes
+pub mod Words
 pub mod Numbers
 pub mod Booleans
 pub mod Checked
@@ -10,5 +11,6 @@ pub mod Keys
 pub mod KeyNumbers
 pub mod Shift
 pub mod Undo
+pub mod Shows
 pub mod Positions
 pub mod Starred

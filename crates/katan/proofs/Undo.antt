@@ -30,14 +30,20 @@ row-sound (suc (suc (suc (suc (suc (suc i)))))) = omega arith
 pub sound : (v : ℕ) → Sound (rowOf v)
 sound v = row-sound (v - 1)
 
--- ---- the rests see only the lower bits
+-- ---- the formulas see only their register's bits, the rests only the lower ones, of any kind
 
-module _ (v : Row) (t : Sound v) where
-  pub fa-rest-same : (f g : ℕ → ℕ) (ir ka : ℕ) → ((i : ℕ) → i < v .x1 → f i ≡ g i) → faRest xor and v f ir ka ≡ faRest xor and v g ir ka
-  fa-rest-same f g ir ka h = cc (h (v .x2) (t .x2-in), h (v .x3) (t .x3-in), h (v .x4) (t .x4-in), h (v .x5) (t .x5-in))
+module _ {B : Type 0} (_⊕_ _⊙_ : B → B → B) (v : Row) (t : Sound v) (f g : ℕ → B) where
+  pub fa-rest-same : (ir ka : B) → ((i : ℕ) → i < v .x1 → f i ≡ g i) → faRest _⊕_ _⊙_ v f ir ka ≡ faRest _⊕_ _⊙_ v g ir ka
+  fa-rest-same ir ka h = cc (h (v .x2) (t .x2-in), h (v .x3) (t .x3-in), h (v .x4) (t .x4-in), h (v .x5) (t .x5-in))
 
-  pub fb-rest-same : (f g : ℕ → ℕ) (kb : ℕ) → ((i : ℕ) → i < v .y1 → f i ≡ g i) → fbRest xor and v f kb ≡ fbRest xor and v g kb
-  fb-rest-same f g kb h = cc (h (v .y2) (t .y2-in), h (v .y3) (t .y3-in), h (v .y4) (t .y4-in), h (v .y5) (t .y5-in), h (v .y6) (t .y6-in))
+  pub fb-rest-same : (kb : B) → ((i : ℕ) → i < v .y1 → f i ≡ g i) → fbRest _⊕_ _⊙_ v f kb ≡ fbRest _⊕_ _⊙_ v g kb
+  fb-rest-same kb h = cc (h (v .y2) (t .y2-in), h (v .y3) (t .y3-in), h (v .y4) (t .y4-in), h (v .y5) (t .y5-in), h (v .y6) (t .y6-in))
+
+  pub fa-same : (ir ka : B) → ((i : ℕ) → i < v .len1 → f i ≡ g i) → fa _⊕_ _⊙_ v f ir ka ≡ fa _⊕_ _⊙_ v g ir ka
+  fa-same ir ka h = ap₂ _⊕_ (h (v .x1) (omega (arith, t .top1))) (fa-rest-same ir ka (λ i q. h i (omega (arith, t .top1))))
+
+  pub fb-same : (kb : B) → ((i : ℕ) → i < v .len2 → f i ≡ g i) → fb _⊕_ _⊙_ v f kb ≡ fb _⊕_ _⊙_ v g kb
+  fb-same kb h = ap₂ _⊕_ (h (v .y1) (omega (arith, t .top2))) (fb-rest-same kb (λ i q. h i (omega (arith, t .top2))))
 
 -- ---- a clock
 
@@ -57,18 +63,18 @@ module _ (v : Row) (t : Sound v) (u : RoundInput) (b : Bits u) (s : Registers) (
       let b-bit = fb-bit v (s .l2) (b .kb-bit) in
       rw (← t .top1, ← t .top2)
       (ap₂ pair
-      (out-in (v .x1) (λ l. faRest xor and v l (u .ir) (u .ka)) (λ p q h. fa-rest-same v t p q (u .ir) (u .ka) h) (λ l. fa-rest-bit v l (b .ir-bit) (b .ka-bit))
+      (out-in (v .x1) (λ l. faRest xor and v l (u .ir) (u .ka)) (λ p q h. fa-rest-same xor and v t p q (u .ir) (u .ka) h) (λ l. fa-rest-bit v l (b .ir-bit) (b .ka-bit))
       (s .l1) (fb xor and v (bit (s .l2)) (u .kb)) _ (rw add-comm l1-in) b-bit (in-lowest (v .y1) (s .l2) _ a-bit))
-      (out-in (v .y1) (λ l. fbRest xor and v l (u .kb)) (λ p q h. fb-rest-same v t p q (u .kb) h) (λ l. fb-rest-bit v l (b .kb-bit))
+      (out-in (v .y1) (λ l. fbRest xor and v l (u .kb)) (λ p q h. fb-rest-same xor and v t p q (u .kb) h) (λ l. fb-rest-bit v l (b .kb-bit))
       (s .l2) (fa xor and v (bit (s .l1)) (u .ir) (u .ka)) _ (rw add-comm l2-in) a-bit (in-lowest (v .x1) (s .l1) _ b-bit)))
 
   clock-unclock : clock v u (unclock v u s) ≡ s
   clock-unclock =
       rw (← t .top1, ← t .top2)
       (ap₂ pair
-      (ap (shiftIn (v .x1 + 1) (unclock v u s .l1)) (formula-out (v .y1) (λ l. fbRest xor and v l (u .kb)) (λ p q h. fb-rest-same v t p q (u .kb) h) (λ l. fb-rest-bit v l (b .kb-bit)) (s .l2) (bit (s .l1) 0) l2-in (bit-lt (s .l1) 0))
+      (ap (shiftIn (v .x1 + 1) (unclock v u s .l1)) (formula-out (v .y1) (λ l. fbRest xor and v l (u .kb)) (λ p q h. fb-rest-same xor and v t p q (u .kb) h) (λ l. fb-rest-bit v l (b .kb-bit)) (s .l2) (bit (s .l1) 0) l2-in (bit-lt (s .l1) 0))
       ∙ in-out (v .x1) (s .l1) _ l1-in)
-      (ap (shiftIn (v .y1 + 1) (unclock v u s .l2)) (formula-out (v .x1) (λ l. faRest xor and v l (u .ir) (u .ka)) (λ p q h. fa-rest-same v t p q (u .ir) (u .ka) h) (λ l. fa-rest-bit v l (b .ir-bit) (b .ka-bit)) (s .l1) (bit (s .l2) 0) l1-in (bit-lt (s .l2) 0))
+      (ap (shiftIn (v .y1 + 1) (unclock v u s .l2)) (formula-out (v .x1) (λ l. faRest xor and v l (u .ir) (u .ka)) (λ p q h. fa-rest-same xor and v t p q (u .ir) (u .ka) h) (λ l. fa-rest-bit v l (b .ir-bit) (b .ka-bit)) (s .l1) (bit (s .l2) 0) l1-in (bit-lt (s .l2) 0))
       ∙ in-out (v .y1) (s .l2) _ l2-in))
 
   pub unclock-fits : RegistersFit v (unclock v u s)

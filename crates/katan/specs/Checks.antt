@@ -10,9 +10,9 @@ use Rattle.katan.specs.Sizes.{keyBytes}
 use Rattle.katan.specs.Counter.{rounds}
 use Rattle.katan.specs.Variant.{widthOf}
 use Rattle.katan.specs.declared.Refusal.{Refusal}
-use Rattle.katan.specs.declared.Refusal.the-variants.{BadVariant, BadLength, BadKind, FieldNotZero, BadLane, BadPosition, BadBlock, EmptyMask, OutOfTurn, OtherBytes, EmptyLane, BadRate, BadForm, BeyondEnd}
+use Rattle.katan.specs.declared.Refusal.the-variants.{BadVariant, BadLength, BadKind, FieldNotZero, BadLane, BadPosition, BadBlock, EmptyMask, OutOfTurn, OtherBytes, EmptyLane, BadRate, BadForm, BeyondEnd, BadClock}
 
--- the number of each refusal: 14 is document 02's
+-- the number of each refusal: document 02's from 14 on
 abbrev pub numberOf : Refusal → ℕ
 numberOf BadVariant = 1
 numberOf BadLength = 2
@@ -28,6 +28,7 @@ numberOf EmptyLane = 11
 numberOf BadRate = 12
 numberOf BadForm = 13
 numberOf BeyondEnd = 14
+numberOf BadClock = 15
 
 -- what a call answers: a value, or a refusal's number
 pub data Outcome (A : Type 0) : Type 0 where

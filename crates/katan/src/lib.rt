@@ -68,7 +68,7 @@ pub struct Key {
     pub high: u16,
 }
 
-// Document 01's "Turned away", 1 to 13 in its order; 14 from document 02.
+// Document 01's "Turned away", 1 to 13 in its order; then document 02's, from 14 on.
 pub enum Refusal {
     BadVariant,
     BadLength,
@@ -84,6 +84,7 @@ pub enum Refusal {
     BadRate,
     BadForm,
     BeyondEnd,
+    BadClock,
 }
 
 // What a call for a variant's row answers.

@@ -6,9 +6,12 @@ ghost use Rattle.katan.specs.Key.{keyNumber};
 ghost use Rattle.katan.specs.Variant.{rowOf, widthOf};
 ghost use Rattle.katan.specs.Machine.{registersAt};
 ghost use Rattle.katan_registers.specs.Answers.{blockOutcome, registersAnswer};
+ghost use Rattle.katan_registers.specs.Inputs.{roundInput};
 use crate::rounds::by_tables;
+use crate::rounds::input_of;
 use katan::Key;
 use katan::Refusal;
+use katan::RoundInput;
 use katan::RoundPosition;
 use katan::Row;
 use katan::RowAnswer;
@@ -64,4 +67,22 @@ pub fn registers_at(
         }
         RowAnswer::Refused(r) => Answer::Refused(r),
     }
+}
+
+// IR, ka and kb of the round that starts at a position; zeros at 254 and above, where none does.
+pub fn round_input(variant: u8, key: Key, at: RoundPosition) -> RoundInput
+    ensures { λ u. ⌜ u ≡ roundInput variant (keyNumber key) (at .0) ⌝ }
+{
+    let r = at.0 as usize;
+    if katan::ROUND_COUNT <= r {
+        return RoundInput {
+            ir: 0,
+            ka: 0,
+            kb: 0,
+        };
+    }
+    let counters = katan_variants::counters();
+    let numbers = katan_variants::key_bit_numbers();
+    let source = katan_keys::source_at(variant, key, at);
+    input_of(variant, &counters, &numbers, r, source)
 }

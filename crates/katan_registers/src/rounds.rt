@@ -49,7 +49,7 @@ fn input_from(counter: u8, source: Window, ka: usize, kb: usize) -> RoundInput
 }
 
 // The input of round r. KATAN's key bits are the two lowest of the window; KTANTAN's table names them.
-fn input_of(
+pub fn input_of(
     variant: u8,
     counters: &[u8; katan::ROUND_COUNT],
     numbers: &[u8; katan::ROUND_KEYS],

@@ -15,7 +15,7 @@ use katan::RowAnswer;
 
 mod constants;
 
-// The number of a refusal: document 01's, and 14 document 02's.
+// The number of a refusal: document 01's, and from 14 on document 02's.
 pub fn refusal_number(r: Refusal) -> u8
     ensures { λ k. ⌜ k ≡ numberOf r ⌝ }
 {
@@ -34,6 +34,7 @@ pub fn refusal_number(r: Refusal) -> u8
         Refusal::BadRate => 12,
         Refusal::BadForm => 13,
         Refusal::BeyondEnd => 14,
+        Refusal::BadClock => 15,
     }
 }
 

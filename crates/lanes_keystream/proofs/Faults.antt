@@ -12,13 +12,9 @@ use Rattle.katan.specs.Sizes.{keyBytes}
 use Rattle.katan.specs.Variant.{widthOf}
 use Rattle.katan.specs.Checks.{Outcome, value, refused, Check, checked, sizeCheck, variantCheck, keyCheck, blockCheck}
 use Rattle.katan.specs.Lent.{lentAfter}
-use Rattle.katan.proofs.Checked.{NoFault, fault-first, checked-append, no-fault-found}
+use Rattle.katan.proofs.Checked.{NoFault, no-fault-found, fault-after}
 use Rattle.lanes.specs.Many.{any}
 use Rattle.lanes_keystream.specs.Stream.{blockCount, longestMessage, streamed, endCheck, streamChecks, streamAnswer, streamOf}
-
--- a fault that is found after checks that find none
-fault-after : {A : Type 0} (cs : List Check) (c : Check) (ds : List Check) (r : Outcome A) → NoFault cs → c .fault ≡ true → checked (cs ++ c ∷ ds) r ≡ refused (c .number)
-fault-after cs c ds r z e = checked-append cs (c ∷ ds) r ∙ no-fault-found cs (checked (c ∷ ds) r) z ∙ fault-first c ds r e
 
 second-fault : (a b : Bool) → b ≡ true → any (λ x. x) (a ∷ b ∷ []) ≡ true
 second-fault true b e = refl

@@ -13,7 +13,7 @@ use Rattle.katan.specs.inner.Within.{Sound}
 use Rattle.katan.specs.declared.Row.{Row}
 use Rattle.katan.specs.declared.RoundInput.{RoundInput}
 use Rattle.katan.proofs.Bits.{xor-undone}
-use Rattle.katan.proofs.Undo.{fa-rest-same, fb-rest-same}
+use Rattle.katan.proofs.Undo.{fa-rest-same, fb-rest-same, fa-same, fb-same}
 use Rattle.lanes_rounds.specs.inner.Buffers.{tapped, Clocked}
 
 -- an xor of equal words at an equal place
@@ -32,16 +32,6 @@ abbrev pub Clocks : Row → RoundInput → (first n : ℕ) → List ℕ → List
 Clocks v u first n a b = (c : ℕ) → c < n → Clocked v u (first + c) a b
 
 module _ (v : Row) (s : Sound v) where
-  -- ---- the formulas see only their register's bits
-
-  pub fa-same : (f g : ℕ → ℕ) (ir ka : ℕ) → ((i : ℕ) → i < v .len1 → f i ≡ g i) → fa xor and v f ir ka ≡ fa xor and v g ir ka
-  fa-same f g ir ka h =
-      ap₂ xor (h (v .x1) (omega (arith, s .top1))) (fa-rest-same v s f g ir ka (λ i q. h i (omega (arith, s .top1))))
-
-  pub fb-same : (f g : ℕ → ℕ) (kb : ℕ) → ((i : ℕ) → i < v .len2 → f i ≡ g i) → fb xor and v f kb ≡ fb xor and v g kb
-  fb-same f g kb h =
-      ap₂ xor (h (v .y1) (omega (arith, s .top2))) (fb-rest-same v s f g kb (λ i q. h i (omega (arith, s .top2))))
-
   module _ (u : RoundInput) (t : ℕ) (a b : List ℕ) where
     -- what is stored elsewhere leaves a clock made
     pub still : (a′ b′ : List ℕ) → ((i : ℕ) → t ≤ i → i ≤ t + v .len1 → getD a′ i 0 ≡ getD a i 0) → ((i : ℕ) → t ≤ i → i ≤ t + v .len2 → getD b′ i 0 ≡ getD b i 0)
@@ -49,9 +39,9 @@ module _ (v : Row) (s : Sound v) where
     still a′ b′ f g c =
         record {
           into1 = f (t + v .len1) (omega arith) (omega arith) ∙ c .into1
-              ∙ sym (fb-same (tapped b′ (t + v .y1)) (tapped b (t + v .y1)) (u .kb) (λ i q. g (t + v .y1 - i) (omega (arith, s .top2)) (omega (arith, s .top2))));
+              ∙ sym (fb-same xor and v s (tapped b′ (t + v .y1)) (tapped b (t + v .y1)) (u .kb) (λ i q. g (t + v .y1 - i) (omega (arith, s .top2)) (omega (arith, s .top2))));
           into2 = g (t + v .len2) (omega arith) (omega arith) ∙ c .into2
-              ∙ sym (fa-same (tapped a′ (t + v .x1)) (tapped a (t + v .x1)) (u .ir) (u .ka) (λ i q. f (t + v .x1 - i) (omega (arith, s .top1)) (omega (arith, s .top1))));
+              ∙ sym (fa-same xor and v s (tapped a′ (t + v .x1)) (tapped a (t + v .x1)) (u .ir) (u .ka) (λ i q. f (t + v .x1 - i) (omega (arith, s .top1)) (omega (arith, s .top1))));
         }
 
     module _ (ha : t + v .len1 < length a) (hb : t + v .len2 < length b) where
@@ -62,9 +52,9 @@ module _ (v : Row) (s : Sound v) where
           let wb = fa xor and v (tapped a (t + v .x1)) (u .ir) (u .ka) in
           record {
             into1 = getD-set-same a (t + v .len1) wa 0 ha
-                ∙ sym (fb-same (tapped (set b (t + v .len2) wb) (t + v .y1)) (tapped b (t + v .y1)) (u .kb) (λ i q. getD-set-other b (t + v .len2) (t + v .y1 - i) wb 0 (λ e. omega (arith, s .top2))));
+                ∙ sym (fb-same xor and v s (tapped (set b (t + v .len2) wb) (t + v .y1)) (tapped b (t + v .y1)) (u .kb) (λ i q. getD-set-other b (t + v .len2) (t + v .y1 - i) wb 0 (λ e. omega (arith, s .top2))));
             into2 = getD-set-same b (t + v .len2) wb 0 hb
-                ∙ sym (fa-same (tapped (set a (t + v .len1) wa) (t + v .x1)) (tapped a (t + v .x1)) (u .ir) (u .ka) (λ i q. getD-set-other a (t + v .len1) (t + v .x1 - i) wa 0 (λ e. omega (arith, s .top1))));
+                ∙ sym (fa-same xor and v s (tapped (set a (t + v .len1) wa) (t + v .x1)) (tapped a (t + v .x1)) (u .ir) (u .ka) (λ i q. getD-set-other a (t + v .len1) (t + v .x1 - i) wa 0 (λ e. omega (arith, s .top1))));
           }
 
       -- backward: what had left the registers is found from what entered them
@@ -82,8 +72,8 @@ module _ (v : Row) (s : Sound v) where
           record {
             into1 = getD-set-other a t (t + v .len1) wa 0 (λ e. omega (arith, s .top1))
                 ∙ sym (xor-undone (getD a (t + v .len1) 0) rb)
-                ∙ sym (ap₂ xor lb (fb-rest-same v s _ _ (u .kb) (λ i q. getD-set-other b t (t + v .y1 - i) wb 0 (λ e. omega arith))));
+                ∙ sym (ap₂ xor lb (fb-rest-same xor and v s _ _ (u .kb) (λ i q. getD-set-other b t (t + v .y1 - i) wb 0 (λ e. omega arith))));
             into2 = getD-set-other b t (t + v .len2) wb 0 (λ e. omega (arith, s .top2))
                 ∙ sym (xor-undone (getD b (t + v .len2) 0) ra)
-                ∙ sym (ap₂ xor la (fa-rest-same v s _ _ (u .ir) (u .ka) (λ i q. getD-set-other a t (t + v .x1 - i) wa 0 (λ e. omega arith))));
+                ∙ sym (ap₂ xor la (fa-rest-same xor and v s _ _ (u .ir) (u .ka) (λ i q. getD-set-other a t (t + v .x1 - i) wa 0 (λ e. omega arith))));
           }

@@ -1,6 +1,6 @@
 -- Each lane of the buffers is a block's registers, and a history carries them from clock to clock.
 -- Assumes nothing.
-use mathlib.Core.Path.{_≡_, refl, sym, ap, ap₂, subst, _∙_}
+use mathlib.Core.Path.{_≡_, sym, ap, ap₂, subst, _∙_}
 use mathlib.Core.List.{List}
 use Prim.Native.Nat.{ℕ, zero, suc, _+_, _-_, _*_, _^_, _<_, _≤_}
 use native.Mathlib.Nat.{add-zero, zero-add, mul-zero, mod-lt}
@@ -10,70 +10,51 @@ use lib.ListN.{getD}
 use lib.Pow.{pow-pos}
 use Rattle.katan.specs.Bit.{bit, xor, and}
 use Rattle.katan.specs.Counter.{counter, irOf, rounds}
-use Rattle.katan.specs.Clock.{fa, fb, shiftIn, clock, clocks, round, run, registers}
+use Rattle.katan.specs.Clock.{clock, clocks, round, run, registers}
 use Rattle.katan.specs.Sizes.{wordBits}
 use Rattle.katan.specs.inner.Within.{Sound, Bits, RegistersFit, Entries}
 use Rattle.katan.specs.declared.Row.{Row}
 use Rattle.katan.specs.declared.Registers.{Registers}
 use Rattle.katan.specs.declared.RoundInput.{RoundInput}
-use Rattle.katan.proofs.Bits.{bit-lt, bit-zero, bit-mod, bit-xor, bit-and, fa-bit, fb-bit, fa-map, fb-map, bit-shr, bits-equal}
+use Rattle.katan.proofs.Bits.{bit-lt, bit-zero, bit-mod, bit-xor, bit-and, fa-map, fb-map, bit-shr, bits-equal}
 use Rattle.katan.proofs.Tables.{each}
-use Rattle.katan.proofs.Shift.{in-lowest, in-higher}
 use Rattle.katan.proofs.Undo.{run-fits, run-same}
+use Rattle.katan.proofs.Shows.{Shows, clock-shows}
 use Rattle.katan.proofs.Positions.{registers-fit}
 use Rattle.lanes_transpose.specs.Matrix.{column}
 use Rattle.lanes_transpose.proofs.Laws.{column-bit}
 use Rattle.lanes_rounds.specs.Words.{laneBlock, laneInput}
 use Rattle.lanes_rounds.specs.inner.Buffers.{tapped, spread, wordInput, Clocked, History, Placed}
-use Rattle.lanes_rounds.proofs.Clocks.{Clocks, fa-same, fb-same}
+use Rattle.lanes_rounds.proofs.Clocks.{Clocks}
 
 -- the bits of a round's words for lane j
 abbrev laneBits : ℕ → RoundInput → RoundInput
 laneBits j u = record { ir = bit (u .ir) j; ka = bit (u .ka) j; kb = bit (u .kb) j }
 
 -- lane j's registers s stand in the buffers at clock t
-record Stands (v : Row) (j : ℕ) (a b : List ℕ) (t : ℕ) (s : Registers) : Type 0 where
-  stands1 : (i : ℕ) → i < v .len1 → bit (tapped a (t + v .x1) i) j ≡ bit (s .l1) i
-  stands2 : (i : ℕ) → i < v .len2 → bit (tapped b (t + v .y1) i) j ≡ bit (s .l2) i
-
--- ---- a register of m + 1 bits, and the word that enters it
-
-module _ (m j t : ℕ) (l : List ℕ) (x w : ℕ) (held : (i : ℕ) → i < m + 1 → bit (tapped l (t + m) i) j ≡ bit x i) (new : bit (getD l (t + (m + 1)) 0) j ≡ w) (h : w < 2) where
-  pushed : (i : ℕ) → i < m + 1 → bit (tapped l (t + 1 + m) i) j ≡ bit (shiftIn (m + 1) x w) i
-  pushed zero q =
-      let e : t + 1 + m - 0 ≡ t + (m + 1) = omega arith in
-      ap (λ (n : ℕ). bit (getD l n 0) j) e ∙ new ∙ sym (in-lowest m x w h)
-  pushed (suc i) q =
-      let e : t + 1 + m - suc i ≡ t + m - i = omega arith in
-      ap (λ (n : ℕ). bit (getD l n 0) j) e
-      ∙ held i (omega arith)
-      ∙ sym (in-higher m x w i h (omega arith))
+abbrev Stands : Row → (j : ℕ) (a b : List ℕ) (t : ℕ) → Registers → Type 0
+Stands v j a b t s = Shows v (λ i. bit (tapped a (t + v .x1) i) j) (λ i. bit (tapped b (t + v .y1) i) j) s
 
 -- ---- a clock: bit j keeps xor and and, so the words' formulas are lane j's
 
+-- a buffer at clock t + 1, whose newest word stands at t + w, for a register of m + 1 bits
+module _ (j t m w : ℕ) (e : m + 1 ≡ w) (l : List ℕ) where
+  newest : bit (tapped l (t + 1 + m) 0) j ≡ bit (getD l (t + w) 0) j
+  newest = let d : t + 1 + m - 0 ≡ t + w = omega arith in ap (λ (n : ℕ). bit (getD l n 0) j) d
+
+  moved-up : (i : ℕ) → bit (tapped l (t + 1 + m) (suc i)) j ≡ bit (tapped l (t + m) i) j
+  moved-up i = let d : t + 1 + m - suc i ≡ t + m - i = omega arith in ap (λ (n : ℕ). bit (getD l n 0) j) d
+
 module _ (v : Row) (s : Sound v) (j t : ℕ) (a b : List ℕ) (u : RoundInput) (g : Registers) (c : Clocked v u t a b) (h : Stands v j a b t g) where
-  fb-lane : bit (getD a (t + v .len1) 0) j ≡ fb xor and v (bit (g .l2)) (bit (u .kb) j)
-  fb-lane =
-      ap (λ (y : ℕ). bit y j) (c .into1)
-      ∙ fb-map xor and xor and (λ x. bit x j) (λ p q. bit-xor p q j) (λ p q. bit-and p q j) v (tapped b (t + v .y1)) (u .kb)
-      ∙ fb-same v s _ _ (bit (u .kb) j) (h .stands2)
-
-  fa-lane : bit (getD b (t + v .len2) 0) j ≡ fa xor and v (bit (g .l1)) (bit (u .ir) j) (bit (u .ka) j)
-  fa-lane =
-      ap (λ (y : ℕ). bit y j) (c .into2)
-      ∙ fa-map xor and xor and (λ x. bit x j) (λ p q. bit-xor p q j) (λ p q. bit-and p q j) v (tapped a (t + v .x1)) (u .ir) (u .ka)
-      ∙ fa-same v s _ _ (bit (u .ir) j) (bit (u .ka) j) (h .stands1)
-
   clock-stands : Stands v j a b (t + 1) (clock v (laneBits j u) g)
   clock-stands =
-      record {
-        stands1 = λ i q.
-            pushed (v .x1) j t a (g .l1) _ (λ n p. h .stands1 n (omega (arith, s .top1))) (rw (s .top1) fb-lane) (fb-bit v (g .l2) (bit-lt (u .kb) j)) i (omega (arith, s .top1))
-            ∙ ap (λ (m : ℕ). bit (shiftIn m (g .l1) (fb xor and v (bit (g .l2)) (bit (u .kb) j))) i) (s .top1);
-        stands2 = λ i q.
-            pushed (v .y1) j t b (g .l2) _ (λ n p. h .stands2 n (omega (arith, s .top2))) (rw (s .top2) fa-lane) (fa-bit v (g .l1) (bit-lt (u .ir) j) (bit-lt (u .ka) j)) i (omega (arith, s .top2))
-            ∙ ap (λ (m : ℕ). bit (shiftIn m (g .l2) (fa xor and v (bit (g .l1)) (bit (u .ir) j) (bit (u .ka) j))) i) (s .top2);
-      }
+      clock-shows v s (laneBits j u) (record { ir-bit = bit-lt (u .ir) j; ka-bit = bit-lt (u .ka) j; kb-bit = bit-lt (u .kb) j }) g _ _ _ _ h
+      (newest j t (v .x1) (v .len1) (s .top1) a ∙ ap (λ (y : ℕ). bit y j) (c .into1)
+      ∙ fb-map xor and xor and (λ x. bit x j) (λ p q. bit-xor p q j) (λ p q. bit-and p q j) v (tapped b (t + v .y1)) (u .kb))
+      (newest j t (v .y1) (v .len2) (s .top2) b ∙ ap (λ (y : ℕ). bit y j) (c .into2)
+      ∙ fa-map xor and xor and (λ x. bit x j) (λ p q. bit-xor p q j) (λ p q. bit-and p q j) v (tapped a (t + v .x1)) (u .ir) (u .ka))
+      (λ i q. moved-up j t (v .x1) (v .len1) (s .top1) a i)
+      (λ i q. moved-up j t (v .y1) (v .len2) (s .top2) b i)
 
 module _ (v : Row) (s : Sound v) (j : ℕ) (a b : List ℕ) where
   clocks-stand : (u : RoundInput) (t n : ℕ) (g : Registers) → Clocks v u t n a b → Stands v j a b t g
@@ -100,9 +81,9 @@ module _ (v : Row) (s : Sound v) (j : ℕ) (a b : List ℕ) where
   placed-stands : (t : ℕ) (words : List ℕ) (x : ℕ) → Placed v t words a b → ((i : ℕ) → i < v .n → bit (getD words i 0) j ≡ bit x i) → Stands v j a b t (registers v x)
   placed-stands t words x p l =
       record {
-        stands1 = λ i q.
+        shows1 = λ i q.
             ap (λ (y : ℕ). bit y j) (p .placed1 i q) ∙ l (v .len2 + i) (omega (arith, s .both)) ∙ sym (bit-shr x (v .len2) i);
-        stands2 = λ i q.
+        shows2 = λ i q.
             ap (λ (y : ℕ). bit y j) (p .placed2 i q) ∙ l i (omega (arith, s .both)) ∙ sym (bit-mod (v .len2) x i q);
       }
 
@@ -113,8 +94,8 @@ module _ (v : Row) (s : Sound v) (j : ℕ) (a b : List ℕ) where
   one-pair : (t : ℕ) (g h : Registers) → RegistersFit v g → RegistersFit v h → Stands v j a b t g → Stands v j a b t h → g ≡ h
   one-pair t g h fg fh p q =
       ap₂ pair
-      (bits-equal (v .len1) (g .l1) (h .l1) (fg .l1-fits) (fh .l1-fits) (λ i l. sym (p .stands1 i l) ∙ q .stands1 i l))
-      (bits-equal (v .len2) (g .l2) (h .l2) (fg .l2-fits) (fh .l2-fits) (λ i l. sym (p .stands2 i l) ∙ q .stands2 i l))
+      (bits-equal (v .len1) (g .l1) (h .l1) (fg .l1-fits) (fh .l1-fits) (λ i l. sym (p .shows1 i l) ∙ q .shows1 i l))
+      (bits-equal (v .len2) (g .l2) (h .l2) (fg .l2-fits) (fh .l2-fits) (λ i l. sym (p .shows2 i l) ∙ q .shows2 i l))
 
 -- ---- the inputs of lane j
 

@@ -20,7 +20,7 @@ pub mod raw;
 
 /// The version of the calls that this crate was written for: it rises with every new call, and with
 /// every change of a call's parameters, its numbers or a layout.
-pub const VERSION: u32 = 5;
+pub const VERSION: u32 = 6;
 
 /// The version of the calls that the archive was built with.
 ///
@@ -62,6 +62,8 @@ pub enum Refusal {
     /// The start of a keystream plus the number of its blocks exceeds 2^n, or the data is over 4,096
     /// bytes.
     BeyondEnd = 14,
+    /// The clock number is over 23.
+    BadClock = 15,
 }
 
 impl Refusal {
@@ -89,6 +91,7 @@ impl Refusal {
             11 => EmptyLane,
             12 => BadRate,
             14 => BeyondEnd,
+            15 => BadClock,
             _ => return None,
         };
         Some(refusal)
@@ -190,6 +193,72 @@ pub fn keystream(variant: u8, key: &[u8], start: u64, data: &[u8]) -> Result<Vec
     let mut out = vec![0; data.len()];
     let status = raw::keystream(variant, key, start, data, &mut out);
     checked(status, out)
+}
+
+/// The last clock that [`origin`] answers. Clock numbers count the clocks from 0, through the rounds:
+/// they are no positions.
+pub const LAST_CLOCK: u64 = 23;
+
+/// The two bits that enter the registers at a clock, and what it took to follow them back.
+#[derive(Clone, Copy, Debug, PartialEq, Eq)]
+pub struct Origin {
+    /// The bit that enters L2, 0 or 1.
+    pub fa: u8,
+    /// The bit that enters L1, 0 or 1.
+    pub fb: u8,
+    /// The block bits looked up, for fa and fb added. Nothing is remembered on the way: a block bit that
+    /// is met again counts again.
+    pub looked_up: u64,
+}
+
+/// The bits that enter at a clock, found by following each of them back to the block, which is in the
+/// registers at position 0. fa is made from five places of L1 and fb from six of L2. Each holds a bit of
+/// the block, or one that entered at an earlier clock and is followed in its turn. All of them are
+/// followed, x5 also where IR is 0.
+///
+/// Clock 0 is the first of round 0. A round has 1 clock where n is 32, 2 where n is 48, 3 where n is 64,
+/// so clocks 0 to [`LAST_CLOCK`] are 24, 12 or 8 rounds.
+///
+/// The checks are 1, 2, 15, 7, in this order.
+///
+/// ```
+/// use katan_bench::{origin, Origin, Refusal, LAST_CLOCK};
+///
+/// // A key of ones and a block of zeros. KATAN32 has one clock a round: the registers at positions 1 to
+/// // 5 show what entered at clocks 0 to 4. L2 is the low 19 bits.
+/// let key = [0xff; 10];
+/// let registers = [0x00080001, 0x00180003, 0x00380007, 0x0078000f, 0x00f8001e];
+/// for (clock, registers) in (0..).zip(registers) {
+///     let entered = origin(1, &key, 0, clock)?;
+///     assert_eq!(u32::from(entered.fa), registers & 1);
+///     assert_eq!(u32::from(entered.fb), registers >> 19 & 1);
+/// }
+///
+/// // Why does a 0 enter L2 at clock 4? Up to clock 3 all places hold zeros of the block, five in L1 and
+/// // six in L2, and what enters are the key's ones.
+/// assert_eq!(origin(1, &key, 0, 3)?, Origin { fa: 1, fb: 1, looked_up: 11 });
+/// // At clock 4 place 3 of L1, which is x5, holds fb of clock 0: a 1, made from six bits. IR is 1, so it
+/// // cancels the key's 1. Place 3 of L2 holds fa of clock 0, made from five.
+/// assert_eq!(origin(1, &key, 0, 4)?, Origin { fa: 0, fb: 1, looked_up: 4 + 6 + 5 + 5 });
+///
+/// // The chains grow: a handout with every bit of clock 23 would be long.
+/// assert_eq!(origin(1, &key, 0, LAST_CLOCK)?.looked_up, 957);
+/// assert_eq!(origin(1, &key, 0, 24), Err(Refusal::BadClock));
+/// // 33 bits are no block of KATAN32, but the clock is looked at first.
+/// assert_eq!(origin(1, &key, 1 << 32, 23), Err(Refusal::BadBlock));
+/// assert_eq!(origin(1, &key, 1 << 32, 24), Err(Refusal::BadClock));
+/// # Ok::<(), Refusal>(())
+/// ```
+pub fn origin(variant: u8, key: &[u8], block: u64, clock: u64) -> Result<Origin, Refusal> {
+    let mut out = [0; 3];
+    let status = raw::origin(variant, key, block, clock, &mut out);
+    let [fa, fb, looked_up] = out;
+    let origin = Origin {
+        fa: fa as u8,
+        fb: fb as u8,
+        looked_up,
+    };
+    checked(status, origin)
 }
 
 /// The cycles that blocks take: 255 for each, one for loading and its 254 rounds.
@@ -531,7 +600,7 @@ mod tests {
     fn each_number_is_of_its_refusal() {
         for number in 0..=u8::MAX {
             let found = Refusal::from_number(number).map(Refusal::number);
-            let given = matches!(number, 1..=12 | 14);
+            let given = matches!(number, 1..=12 | 14 | 15);
             assert_eq!(found, given.then_some(number));
         }
     }

@@ -64,6 +64,15 @@ mod c {
             out: *mut u8,
             out_length: usize,
         ) -> u8;
+        pub fn katan_origin(
+            variant: u8,
+            key: *const u8,
+            key_length: usize,
+            block: u64,
+            clock: u64,
+            out: *mut u64,
+            out_length: usize,
+        ) -> u8;
         pub fn katan_cycles(blocks: u32) -> u64;
         pub fn katan_bit_rate(variant: u8, hertz: u64, out: *mut u64, out_length: usize) -> u8;
         pub fn katan_open(
@@ -185,6 +194,21 @@ pub fn keystream(variant: u8, key: &[u8], start: u64, data: &[u8], out: &mut [u8
             start,
             data.as_ptr(),
             data.len(),
+            out.as_mut_ptr(),
+            out.len(),
+        )
+    }
+}
+
+/// The output is fa, fb and the count of block bits looked up.
+pub fn origin(variant: u8, key: &[u8], block: u64, clock: u64, out: &mut [u64]) -> u8 {
+    unsafe {
+        c::katan_origin(
+            variant,
+            key.as_ptr(),
+            key.len(),
+            block,
+            clock,
             out.as_mut_ptr(),
             out.len(),
         )

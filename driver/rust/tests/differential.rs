@@ -1,5 +1,5 @@
-//! Every function of the driver, but for the keystream, against the independent model, on sound and
-//! damaged input.
+//! Every function of the driver, but for the keystream and the origin of bits, against the independent
+//! model, on sound and damaged input.
 
 mod common;
 

@@ -1,6 +1,8 @@
 //! The numbers of the C header, against the calls.
 
-use katan_bench::{raw, record, version, Bench, Lane, Reading, Refusal, LONGEST_DATA, VERSION};
+use katan_bench::{
+    raw, record, version, Bench, Lane, Reading, Refusal, LAST_CLOCK, LONGEST_DATA, VERSION,
+};
 use std::collections::HashMap;
 
 /// The header's names for numbers: `#define NAME NUMBER`, perhaps with a suffix and a comment.
@@ -39,6 +41,7 @@ fn statuses_and_lengths() {
         ("KATAN_EMPTY_LANE", Refusal::EmptyLane),
         ("KATAN_BAD_RATE", Refusal::BadRate),
         ("KATAN_BEYOND_END", Refusal::BeyondEnd),
+        ("KATAN_BAD_CLOCK", Refusal::BadClock),
     ];
     for (name, refusal) in refusals {
         assert_eq!(names[name], usize::from(refusal.number()), "{name}");
@@ -61,6 +64,14 @@ fn statuses_and_lengths() {
     let status = |length| katan_bench::keystream(1, &key, 0, &vec![0; length]).err();
     assert_eq!(status(longest), None);
     assert_eq!(status(longest + 1), Some(Refusal::BeyondEnd));
+    let last = names["KATAN_LAST_CLOCK"] as u64;
+    assert_eq!(last, LAST_CLOCK);
+    assert!(katan_bench::origin(1, &key, 0, last).is_ok());
+    let after = katan_bench::origin(1, &key, 0, last + 1);
+    assert_eq!(after, Err(Refusal::BadClock));
+    let words = names["KATAN_ORIGIN_WORDS"];
+    let status = |length| raw::origin(1, &key, 0, last, &mut vec![7; length]);
+    assert_eq!([words - 1, words, words + 1].map(status), [2, 0, 2]);
     let highest = names["KATAN_HIGHEST_RATE"] as u64;
     assert!(katan_bench::bit_rate(1, highest).is_ok());
     assert_eq!(katan_bench::bit_rate(1, highest + 1), Err(Refusal::BadRate));

@@ -1,6 +1,6 @@
 -- `driver_bench::put_arrival` meets its contract.
 -- Assumes nothing.
-use mathlib.Core.Path.{_∙_}
+use mathlib.Core.Path.{refl, _∙_}
 use Rattle.driver_layout.proofs.Fitted.{it-fits}
 use borrow.Author.Needs.{needs}
 use Rattle.driver_bench.proofs.put_arrival.Statement.{statement}
@@ -36,10 +36,10 @@ returns c =
     rw (m .reply .given .1) (b .put-bench .ensures ∙ it-fits _ _ (d .args .bench .now) (d .pre .0), l .put-link .ensures ∙ it-fits _ _ (d .args .link .now) (d .pre .1))
 
 returns-2 : tie.Need-returns-2
-returns-2 c = search needs
+returns-2 c = rw (c .before .reply2 .given .1) (refl, refl)
 
 returns-3 : tie.Need-returns-3
-returns-3 c = search needs
+returns-3 c = rw (c .before .reply3 .given .1) (refl, refl)
 
 pub put-arrival-spec : {M : Type 1} → statement M
 put-arrival-spec =

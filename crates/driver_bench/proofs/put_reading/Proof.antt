@@ -1,7 +1,7 @@
 -- `driver_bench::put_reading` meets its contract.
 -- Assumes nothing.
 use mathlib.Core.Path.{refl}
-use Rattle.driver_layout.proofs.Words.{two-words}
+use Rattle.katan.proofs.Words.{two-words}
 use borrow.Author.Needs.{needs}
 use Rattle.driver_bench.proofs.put_reading.Statement.{statement}
 use Rattle.driver_bench.proofs.put_reading.Tie as tie

@@ -1,6 +1,6 @@
 -- `driver_bench::put_response` meets its contract.
 -- Assumes nothing.
-use Rattle.driver_layout.proofs.Words.{three-words}
+use Rattle.katan.proofs.Words.{three-words}
 use borrow.Author.Needs.{needs}
 use Rattle.driver_bench.proofs.put_response.Statement.{statement}
 use Rattle.driver_bench.proofs.put_response.Tie as tie

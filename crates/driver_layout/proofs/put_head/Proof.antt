@@ -1,7 +1,7 @@
 -- `driver_layout::put_head` meets its contract.
 -- Assumes nothing.
 use Rattle.driver_layout.specs.Layout.{loadedState}
-use Rattle.driver_layout.proofs.Words.{two-words}
+use Rattle.katan.proofs.Words.{two-words}
 use borrow.Author.Needs.{needs}
 use Rattle.driver_layout.proofs.put_head.Statement.{statement}
 use Rattle.driver_layout.proofs.put_head.Tie as tie

@@ -53,6 +53,9 @@ enum-told-13 c = search needs
 enum-told-14 : tie.Need-enum-told-14
 enum-told-14 c = search needs
 
+enum-told-15 : tie.Need-enum-told-15
+enum-told-15 c = search needs
+
 returns : tie.Need-returns
 returns c = known (c .enum-told .given .1)
 
@@ -95,6 +98,9 @@ returns-13 c = known (c .enum-told13 .given .1)
 returns-14 : tie.Need-returns-14
 returns-14 c = known (c .enum-told14 .given .1)
 
+returns-15 : tie.Need-returns-15
+returns-15 c = known (c .enum-told15 .given .1)
+
 pub refusal-number-spec : {M : Type 1} → statement M
 refusal-number-spec =
     tie.close
@@ -113,6 +119,7 @@ refusal-number-spec =
     enum-told-12
     enum-told-13
     enum-told-14
+    enum-told-15
     returns
     returns-2
     returns-3
@@ -126,4 +133,5 @@ refusal-number-spec =
     returns-11
     returns-12
     returns-13
-    returns-14)
+    returns-14
+    returns-15)

@@ -1,0 +1,82 @@
+use mathlib.Core.Path.{refl}
+use Rattle.katan_origin.specs.Origin.{originOutcome}
+use Rattle.driver_ciphers.specs.Calls.{originWords}
+use Rattle.driver_ciphers.proofs.Words.{lent-length, passes, refuses}
+use borrow.Author.Needs.{needs}
+use Rattle.driver_ciphers.proofs.put_bits.Statement.{statement}
+use Rattle.driver_ciphers.proofs.put_bits.Tie as tie
+
+checked-lent-requires : tie.Need-checked-lent-requires
+checked-lent-requires c κs = search needs
+
+enum-told : tie.Need-enum-told
+enum-told c = search needs
+
+enum-known-answer : tie.Need-enum-known-answer
+enum-known-answer c = search needs
+
+put-clock-requires : tie.Need-put-clock-requires
+put-clock-requires c κs =
+    let t = c .before .before .before .before in
+    let l = t .before .before in
+    let a = l .before .before .args in
+    let is = l .checked-lent .ensures (a .out .now) refl in
+    let sound = t .enum-told .given .1 in
+    lent-length (a .variant) originWords (a .out .now) _ is sound
+
+enum-known-answer-2 : tie.Need-enum-known-answer-2
+enum-known-answer-2 c = search needs
+
+refusal-number-requires : tie.Need-refusal-number-requires
+refusal-number-requires c κs = search needs
+
+enum-known-r : tie.Need-enum-known-r
+enum-known-r c = search needs
+
+refusal-number-requires-2 : tie.Need-refusal-number-requires-2
+refusal-number-requires-2 c κs = search needs
+
+same-length : tie.Need-same-length
+same-length c = search needs
+
+returns : tie.Need-returns
+returns c =
+    let t = c .before .before .before .before .before .before .before in
+    let l = t .before .before in
+    let a = l .before .before .args in
+    let is = l .checked-lent .ensures (a .out .now) refl in
+    let sound = t .enum-told .given .1 in
+    rw (passes (a .variant) originWords (a .out .now) _ is (originOutcome (a .answer)) sound, c .before .before .before .before .before .answer .given .1) (refl, c .before .before .put-clock .ensures)
+
+returns-2 : tie.Need-returns-2
+returns-2 c =
+    let t = c .before .before .before .before in
+    let l = t .before .before in
+    let a = l .before .before .args in
+    let is = l .checked-lent .ensures (a .out .now) refl in
+    let sound = t .enum-told .given .1 in
+    rw (passes (a .variant) originWords (a .out .now) _ is (originOutcome (a .answer)) sound, c .before .before .answer2 .given .1) (c .refusal-number .ensures, refl)
+
+returns-3 : tie.Need-returns-3
+returns-3 c =
+    let l = c .before .before .before .before in
+    let a = l .before .before .args in
+    let is = l .checked-lent .ensures (a .out .now) refl in
+    rw (refuses (a .variant) originWords (a .out .now) _ is (originOutcome (a .answer)) _ (c .before .before .r .given .1)) (c .refusal-number2 .ensures, refl)
+
+pub put-bits-spec : {M : Type 1} → statement M
+put-bits-spec =
+    tie.close
+    (tie.spec
+    checked-lent-requires
+    enum-told
+    enum-known-answer
+    put-clock-requires
+    enum-known-answer-2
+    refusal-number-requires
+    enum-known-r
+    refusal-number-requires-2
+    same-length
+    returns
+    returns-2
+    returns-3)
