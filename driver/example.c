@@ -1,6 +1,7 @@
 // A bench is opened and a lane loaded. The step is previewed, and the lane has not moved; a garbled copy of the step is previewed too. Then the
 // lane is stepped; the answer to the step is lost, so the step is sent once more: first garbled on its way, which gets 10, since a record of
-// that number has counted, then whole. The lane is read. Then the load, the step and the read as one list of calls.
+// that number has counted, then whole. The lane is read. Then the load, the step and the read as one list of calls. At last the two bits that entered in the
+// step's last round, followed back to the block.
 #include "katan_bench.h"
 
 #include <stdio.h>
@@ -134,5 +135,10 @@ int main(void) {
     if (last[KATAN_ANSWER_KIND] == KATAN_ANSWER_READ)
         printf("in a list, lane 0 at %u: %08x\n", (unsigned)get(last + KATAN_ANSWER_NUMBER, 4),
                (unsigned)get(last + KATAN_ANSWER_VALUE, 8));
+
+    // what entered in the last of these five rounds, followed back to the block
+    uint64_t bits[KATAN_ORIGIN_WORDS];
+    accepted(katan_origin(KATAN32, key, sizeof key, 0, 4, bits, KATAN_ORIGIN_WORDS));
+    printf("clock 4: fa %u, fb %u, from %u block bits\n", (unsigned)bits[0], (unsigned)bits[1], (unsigned)bits[2]);
     return 0;
 }

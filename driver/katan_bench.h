@@ -79,7 +79,7 @@ extern "C" {
 #define KATAN_BAD_CLOCK 15      /* the clock number is over KATAN_LAST_CLOCK (katan_origin) */
 
 #define KATAN_ROUNDS 254                /* positions are 0 to 254: the rounds that a block has behind it */
-#define KATAN_LAST_CLOCK 23             /* clock numbers are 0 to 23, and are no positions (katan_origin) */
+#define KATAN_LAST_CLOCK 23             /* clock numbers are 0 to 23, and are not positions (katan_origin) */
 #define KATAN_LANES 64                  /* of a bench, and the most blocks of a call for many */
 #define KATAN_HIGHEST_RATE 2940000000u  /* in hertz */
 

@@ -1,5 +1,5 @@
-// KATAN and KTANTAN in our own plain C, to be measured beside the proved code. All take up to 64 blocks, block i with
-// the key in bytes 10i to 10i + 9.
+// KATAN and KTANTAN in our own plain C, to be measured beside the proved code. Those on many blocks take up to 64, block
+// i with the key in bytes 10i to 10i + 9.
 #ifndef PEERS_H
 #define PEERS_H
 

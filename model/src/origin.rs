@@ -58,7 +58,7 @@ impl Chains {
     }
 
     /// The bit that a clock finds at a place of L1. The clocks before it have each shifted the register
-    /// by one place: where the place is lower than they are many, the bit entered in one of them;
+    /// by one place: where the place is lower than their number, the bit entered in one of them;
     /// otherwise it was loaded that many places lower.
     fn bit_of_l1(&self, clock: usize, place: usize) -> Followed {
         if place < clock {
@@ -86,7 +86,7 @@ fn of_the_block(register: &[u8], i: usize) -> Followed {
     }
 }
 
-/// Both bits of a clock. Nothing is remembered: a bit that is met twice is followed twice.
+/// Both bits of a clock: what was followed for one place is followed again for the next.
 pub fn origin(variant: Variant, key: &[u8; 10], block: u64, clock: usize) -> Origin {
     assert!(variant.is_block(block));
     let chains = Chains {

@@ -1,11 +1,10 @@
 -- What a call with words lent for its answer leaves, by what was found of variant and lent memory.
 -- Assumes nothing.
 use mathlib.Core.Path.{_≡_, sym, ap, subst, _∙_}
-use mathlib.Core.Bool.{Bool, true, false, not}
 use mathlib.Core.List.{List}
 use Prim.Native.Nat.{ℕ}
-use native.Mathlib.Omega.{arith}
-use lib.Dec.{T, eqb, eqb→eq}
+use borrow.Author.Tests.{eqb-true, not-false}
+use lib.Dec.{eqb}
 use lib.ListN.{length}
 use Rattle.katan.specs.Checks.{Outcome, value, refused, numberOf, Check, checked}
 use Rattle.katan.specs.Lent.{statusOf, lentAfter}
@@ -24,17 +23,13 @@ module _ {A : Type 0} (f : A → List ℕ) (cs : List Check) (out : List ℕ) wh
   pub answered : {a b : Outcome A} {r : ℕ} {new : List ℕ} → a ≡ b → Leaves r new a → Leaves r new b
   answered {r = r} {new} e g = subst (Leaves r new) e g
 
-not-false : (b : Bool) → not b ≡ false → T b
-not-false true e = tt
-not-false false e = let z : _≡_ {A = ℕ} 0 1 = cc in absurd (omega arith)
-
 -- the checks of variant and lent memory come first
 module _ (v n : ℕ) (out : List ℕ) (l : Lent) (e : lentOutcome l ≡ checked (lentChecks v n out) (value tt)) where
   none : l ≡ Sound → NoFault (lentChecks v n out)
   none s = all-passed tt (lentChecks v n out) (value tt) (sym e ∙ ap lentOutcome s) .0
 
   pub lent-length : l ≡ Sound → length out ≡ n
-  lent-length s = eqb→eq (length out) n (not-false (eqb (length out) n) (none s .1 .0))
+  lent-length s = eqb-true (length out) n (not-false (eqb (length out) n) (none s .1 .0))
 
   pub passes : {A : Type 0} (o : Outcome A) → l ≡ Sound → checked (lentChecks v n out) o ≡ o
   passes o s = no-fault-found (lentChecks v n out) o (none s)

@@ -39,6 +39,9 @@ originWords = 3
 abbrev pub clockWords : ClockBits → List ℕ
 clockWords b = b .fa ∷ b .fb ∷ b .«looked_up» ∷ []
 
+abbrev pub clockCall : ℕ → (out : List ℕ) → Outcome ClockBits → Outcome ClockBits
+clockCall v out answer = checked (lentChecks v originWords out) answer
+
 -- in all 1, 2, 15, 7
 abbrev pub originCall : ℕ → List ℕ → ℕ → ℕ → (out : List ℕ) → Outcome ClockBits
-originCall v key x t out = checked (lentChecks v originWords out) (originAnswer v key x t)
+originCall v key x t out = clockCall v out (originAnswer v key x t)

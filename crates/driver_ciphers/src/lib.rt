@@ -1,5 +1,5 @@
-// The calls of a driver on one block, on many blocks, on a message, on a clock's bits and on the rate: numbers, and lent slices. Each returns 0 or the number of the
-// first fault found, and a refused call leaves every lent output as it was.
+// The calls of a driver on one block, on many blocks, on a message, on a clock's bits and on the rate: numbers, and lent slices.
+// Each returns 0 or the number of the first fault found, and a refused call leaves every lent output as it was.
 ghost use mathlib.Core.Path.{_≡_};
 ghost use mathlib.Core.List.{List};
 ghost use Prim.Native.Nat.{ℕ};
@@ -12,7 +12,7 @@ ghost use Rattle.lanes.specs.declared.Direction.the-variants.{Encrypt, Decrypt}
 ghost use Rattle.lanes_keystream.specs.Stream.{streamAnswer, streamOf};
 ghost use Rattle.katan_origin.specs.Origin.{originOutcome};
 ghost use Rattle.katan_rate.specs.Rate.{cyclesOf, rateOutcome};
-ghost use Rattle.driver_ciphers.specs.Calls.{interfaceVersion, lentChecks, word, wordCall, encryptCall, decryptCall, rateCall, originWords, clockWords, originCall};
+ghost use Rattle.driver_ciphers.specs.Calls.{interfaceVersion, lentChecks, word, wordCall, encryptCall, decryptCall, rateCall, originWords, clockWords, clockCall, originCall};
 ghost use Rattle.driver_ciphers.specs.inner.Words.{wordOutcome, lentOutcome};
 use katan::ClockNumber;
 use katan::Refusal;
@@ -61,7 +61,7 @@ enum Lent {
     Refused(Refusal),
 }
 
-// Checks 1 and 2 of a call that has so many words lent for its answer, and their number.
+// Checks 1 and 2 of a call whose answer takes so many words, and that has memory of this length lent for it.
 fn checked_lent(variant: u8, words: usize, length: usize) -> Lent
     ensures { λ r. ⌜ ((out : List ℕ) → lengthOf out ≡ length → lentOutcome r ≡ checked (lentChecks variant words out) (value tt)) ⌝ }
 {
@@ -150,8 +150,8 @@ pub fn keystream(variant: u8, key: &[u8], start: u64, message: &[u8], out: &mut 
     status(lanes_keystream::keystream(variant, key, start, message, out))
 }
 
-// The two bits of a clock and the block bits looked up for them.
-fn put_clock(bits: ClockBits, out: &mut [u64])
+// Writes the two bits of a clock and the block bits looked up for them.
+fn put_clock_bits(bits: ClockBits, out: &mut [u64])
     requires { ⌜ lengthOf (now out) ≡ originWords ⌝ }
     ensures { λ r. ⌜ now (out .exit) ≡ clockWords bits ⌝ }
 {
@@ -160,15 +160,15 @@ fn put_clock(bits: ClockBits, out: &mut [u64])
     out[2] = bits.looked_up;
 }
 
-// The same, where variant and lent memory are sound and the call is not refused.
-fn put_bits(variant: u8, answer: OriginAnswer, out: &mut [u64]) -> u8
-    ensures { λ r. ⌜ r ≡ statusOf (checked (lentChecks variant originWords (now (out .entry))) (originOutcome answer)) ⌝ }
-    ensures { λ r. ⌜ now (out .exit) ≡ lentAfter clockWords (checked (lentChecks variant originWords (now (out .entry))) (originOutcome answer)) (now (out .entry)) ⌝ }
+// An answer on a clock's bits, where variant and lent memory are sound and the call is not refused.
+fn put_origin(variant: u8, answer: OriginAnswer, out: &mut [u64]) -> u8
+    ensures { λ r. ⌜ r ≡ statusOf (clockCall variant (now (out .entry)) (originOutcome answer)) ⌝ }
+    ensures { λ r. ⌜ now (out .exit) ≡ lentAfter clockWords (clockCall variant (now (out .entry)) (originOutcome answer)) (now (out .entry)) ⌝ }
 {
     match checked_lent(variant, ORIGIN_WORDS, out.len()) {
         Lent::Sound => match answer {
             OriginAnswer::Found(bits) => {
-                put_clock(bits, out);
+                put_clock_bits(bits, out);
                 ACCEPTED
             }
             OriginAnswer::Refused(r) => refusal_number(r),
@@ -183,7 +183,7 @@ pub fn origin(variant: u8, key: &[u8], block: u64, clock: u64, out: &mut [u64]) 
     ensures { λ r. ⌜ now (out .exit) ≡ lentAfter clockWords (originCall variant (now (key .entry)) block clock (now (out .entry))) (now (out .entry)) ⌝ }
 {
     let found = katan_origin::origin(variant, key, block, ClockNumber(clock as usize));
-    put_bits(variant, found, out)
+    put_origin(variant, found, out)
 }
 
 // The cycles that a number of blocks takes.

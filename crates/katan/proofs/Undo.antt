@@ -30,7 +30,7 @@ row-sound (suc (suc (suc (suc (suc (suc i)))))) = omega arith
 pub sound : (v : ℕ) → Sound (rowOf v)
 sound v = row-sound (v - 1)
 
--- ---- the formulas see only their register's bits, the rests only the lower ones, of any kind
+-- ---- bits of any kind: a formula sees only those of its register, and its rest only the lower ones
 
 module _ {B : Type 0} (_⊕_ _⊙_ : B → B → B) (v : Row) (t : Sound v) (f g : ℕ → B) where
   pub fa-rest-same : (ir ka : B) → ((i : ℕ) → i < v .x1 → f i ≡ g i) → faRest _⊕_ _⊙_ v f ir ka ≡ faRest _⊕_ _⊙_ v g ir ka

@@ -1,6 +1,6 @@
 -- The counts by themselves: they depend on the row and the clock alone.
 -- Assumes nothing.
-use mathlib.Core.Path.{_≡_, refl, sym, ap₂, _∙_}
+use mathlib.Core.Path.{_≡_, refl, sym, ap, ap₂, _∙_}
 use mathlib.Core.Bool.{Bool, true, false}
 use mathlib.Core.List.{List, [], _∷_}
 use Prim.Native.Nat.{ℕ, zero, suc, _+_, _-_}
@@ -58,9 +58,9 @@ module _ (v key x : ℕ) where
   count-is : (t : ℕ) → originOf v key x t .«looked_up» ≡ countAt (rowOf v) t
   count-is t = ap₂ _+_ (fa-count (suc t) t) (fb-count (suc t) t)
 
--- THEOREM: no key and no block changes a count
-pub same-count : (v key x key′ x′ t : ℕ) → originOf v key x t .«looked_up» ≡ originOf v key′ x′ t .«looked_up»
-same-count v key x key′ x′ t = count-is v key x t ∙ sym (count-is v key′ x′ t)
+-- THEOREM: no key, no block and no kind of variant changes a count
+pub same-count : (v key x v′ key′ x′ t : ℕ) → rowOf v ≡ rowOf v′ → originOf v key x t .«looked_up» ≡ originOf v′ key′ x′ t .«looked_up»
+same-count v key x v′ key′ x′ t e = count-is v key x t ∙ ap (λ (r : Row). countAt r t) e ∙ sym (count-is v′ key′ x′ t)
 
 -- ---- the worked counts, by a test that is computed
 

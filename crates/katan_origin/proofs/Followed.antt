@@ -91,8 +91,8 @@ module _ (v key x : ℕ) where
     fb-few-within zero t = omega arith
     fb-few-within (suc n) t = fb-few (faWithin v key x n) t (λ s. fa-few-within n s)
 
-  pub fa-count : (t : ℕ) → faAt v key x t .count ≤ 6 ^ (t + 1)
-  fa-count t = fa-few-within (suc t) t
+  pub fa-at-most : (t : ℕ) → faAt v key x t .count ≤ 6 ^ (t + 1)
+  fa-at-most t = fa-few-within (suc t) t
 
-  pub fb-count : (t : ℕ) → fbAt v key x t .count ≤ 6 ^ (t + 1)
-  fb-count t = fb-few-within (suc t) t
+  pub fb-at-most : (t : ℕ) → fbAt v key x t .count ≤ 6 ^ (t + 1)
+  fb-at-most t = fb-few-within (suc t) t

@@ -17,7 +17,7 @@ use Rattle.katan.proofs.Keys.{input-bits}
 use Rattle.katan.proofs.Positions.{at-later}
 use Rattle.katan.proofs.Shows.{Shows, clock-shows}
 use Rattle.katan.proofs.Undo.{sound}
-use Rattle.katan_origin.specs.Chains.{xorTraced, andTraced, given, lookedUp, placeAt, clockInput, faAt, fbAt}
+use Rattle.katan_origin.specs.Chains.{xorTraced, andTraced, given, blockBit, placeAt, clockInput, faAt, fbAt}
 use Rattle.katan_origin.specs.Claim.{afterClocks}
 use Rattle.katan_origin.specs.declared.chains.Traced.{Traced}
 use Rattle.katan_origin.proofs.Followed.{fa-followed, fb-followed}
@@ -71,7 +71,7 @@ module _ (e : ℕ → Traced) (l t : ℕ) where
       by-age false q =
           let h = ltb-false i t q in
           let d : suc i - suc t ≡ i - t = omega arith in
-          rw (le-ltb (suc i) (suc t) (omega arith), le-ltb i t h) (ap (lookedUp l) d)
+          rw (le-ltb (suc i) (suc t) (omega arith), le-ltb i t h) (ap (blockBit l) d)
 
 module _ (v key x : ℕ) where
   abbrev found1 : (t i : ℕ) → Traced

@@ -3,10 +3,10 @@
 use mathlib.Core.Path.{_≡_}
 use mathlib.Core.List.{List}
 use Prim.Native.Nat.{ℕ, _^_, _<_, _≤_}
-use borrow.Author.Tests.{eq-eqb, le-ltb, lt-leb}
+use borrow.Author.Tests.{eq-eqb, lt-ltb, le-ltb, lt-leb}
 use lib.ListN.{length}
 use Rattle.katan.specs.Bit.{numberIn}
-use Rattle.katan.specs.Checks.{value}
+use Rattle.katan.specs.Checks.{value, refused}
 use Rattle.katan.specs.Sizes.{keyBytes}
 use Rattle.katan.specs.Variant.{widthOf}
 use Rattle.katan.proofs.Variants.{variant-sound}
@@ -20,6 +20,9 @@ answered : (v : ℕ) (key : List ℕ) (x t : ℕ) → 1 ≤ v → v ≤ 6 → le
 answered v key x t p q ten early fits =
     rw (variant-sound v p q, eq-eqb (length key) keyBytes ten, le-ltb lastClock t early, lt-leb (2 ^ widthOf v) x fits)
 
+late : (v : ℕ) (key : List ℕ) (x t : ℕ) → 1 ≤ v → v ≤ 6 → length key ≡ keyBytes → lastClock < t → originAnswer v key x t ≡ refused 15
+late v key x t p q ten h = rw (variant-sound v p q, eq-eqb (length key) keyBytes ten, lt-ltb lastClock t h)
+
 pub followed-back : FollowedBack
 followed-back =
     record {
@@ -32,5 +35,6 @@ followed-back =
       into-l1 = fb-enters;
       same-count = same-count;
       counts = counts;
+      late = late;
       answered = answered;
     }

@@ -22,16 +22,16 @@ andTraced a b = record { bit = and (a .bit) (b .bit); count = a .count + b .coun
 abbrev pub given : ℕ → Traced
 given b = record { bit = b; count = 0 }
 
--- bit i of the block's L1 or L2: one
-abbrev pub lookedUp : (l i : ℕ) → Traced
-lookedUp l i = record { bit = bit l i; count = 1 }
+-- bit i of the block's register l, looked up: one
+abbrev pub blockBit : (l i : ℕ) → Traced
+blockBit l i = record { bit = bit l i; count = 1 }
 
--- ---- the bit at place i of a register at clock t, with l the block's register
+-- ---- the bit at place i of a register at clock t, with l the register of the block
 
--- where i < t, the bit that entered at clock t - 1 - i; else bit i - t of the block's
+-- true, where i < t: the bit that entered at clock t - 1 - i; false: bit i - t of l
 abbrev pub cameFrom : Bool → (entered : ℕ → Traced) → (l t i : ℕ) → Traced
 cameFrom true entered l t i = entered (t - 1 - i)
-cameFrom false entered l t i = lookedUp l (i - t)
+cameFrom false entered l t i = blockBit l (i - t)
 
 abbrev pub placeAt : (entered : ℕ → Traced) → (l t i : ℕ) → Traced
 placeAt entered l t i = cameFrom (ltb i t) entered l t i
@@ -42,9 +42,9 @@ placeAt entered l t i = cameFrom (ltb i t) entered l t i
 abbrev pub clockInput : (v key t : ℕ) → RoundInput
 clockInput v key t = inputOf v key (t / rowOf v .clocks)
 
--- of the block x at position 0
+-- x is the block, at position 0
 module _ (v key x : ℕ) where
-  -- by the bits that entered L1 before, and by those that entered L2
+  -- fa of clock t by the bits that entered L1 before it, and fb by those that entered L2
   abbrev pub faFrom : (into1 : ℕ → Traced) → (t : ℕ) → Traced
   faFrom into1 t =
       let u = clockInput v key t in

@@ -5,7 +5,7 @@ use mathlib.Core.Path.{_≡_}
 use mathlib.Core.List.{List, [], _∷_}
 use lib.ListN.{length}
 use Rattle.katan.specs.Bit.{bit, numberIn}
-use Rattle.katan.specs.Checks.{value}
+use Rattle.katan.specs.Checks.{value, refused}
 use Rattle.katan.specs.Clock.{clock, block, registers}
 use Rattle.katan.specs.Machine.{registersAt}
 use Rattle.katan.specs.Variant.{rowOf, widthOf}
@@ -29,7 +29,7 @@ abbrev pub Counted : List (ℕ × ℕ × ℕ) → Type 0
 Counted [] = Unit {0}
 Counted (c ∷ cs) = ((key x : ℕ) → originOf (c .0) key x (c .1) .«looked_up» ≡ c .2) × Counted cs
 
--- THE CLAIM, of every variant, key, block and clock
+-- THE CLAIM: but for the worked examples and the two lines on calls, of every variant number, key, block and clock
 pub record FollowedBack : Type 0 where
   -- the equations, with no bound on how often they are followed
   pub fa-followed : (v key x t : ℕ) → faAt v key x t ≡ faFrom v key x (fbAt v key x) t
@@ -42,8 +42,9 @@ pub record FollowedBack : Type 0 where
   -- fa and fb are the bits that enter L2 and L1 at their clock
   pub into-l2 : (v key x t : ℕ) → originOf v key x t .fa ≡ bit (afterClocks v key x (suc t) .l2) 0
   pub into-l1 : (v key x t : ℕ) → originOf v key x t .fb ≡ bit (afterClocks v key x (suc t) .l1) 0
-  -- the count is the same for every key and block
-  pub same-count : (v key x key′ x′ t : ℕ) → originOf v key x t .«looked_up» ≡ originOf v key′ x′ t .«looked_up»
+  -- the count depends on row and clock alone
+  pub same-count : (v key x v′ key′ x′ t : ℕ) → rowOf v ≡ rowOf v′ → originOf v key x t .«looked_up» ≡ originOf v′ key′ x′ t .«looked_up»
   pub counts : Counted worked
-  -- every call with no fault is answered
+  -- a late clock gets 15, whatever the block; every call with no fault is answered
+  pub late : (v : ℕ) (key : List ℕ) (x t : ℕ) → 1 ≤ v → v ≤ 6 → length key ≡ 10 → 23 < t → originAnswer v key x t ≡ refused 15
   pub answered : (v : ℕ) (key : List ℕ) (x t : ℕ) → 1 ≤ v → v ≤ 6 → length key ≡ 10 → t ≤ 23 → x < 2 ^ widthOf v → originAnswer v key x t ≡ value (originOf v (numberIn key) x t)

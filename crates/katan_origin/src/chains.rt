@@ -5,7 +5,7 @@ ghost use Prim.Native.Nat.{ℕ, _+_, _-_, _/_, _^_, _<_, _≤_};
 ghost use Rattle.katan.specs.Clock.{fa as faFormula, fb as fbFormula};
 ghost use Rattle.katan.specs.Key.{keyNumber};
 ghost use Rattle.katan.specs.Variant.{rowOf};
-ghost use Rattle.katan_origin.specs.Chains.{xorTraced, andTraced, given, lookedUp, faAt, fbAt};
+ghost use Rattle.katan_origin.specs.Chains.{xorTraced, andTraced, given, blockBit, faAt, fbAt};
 ghost use Rattle.katan_origin.specs.Origin.{lastClock};
 use katan::ClockNumber;
 use katan::Key;
@@ -19,15 +19,15 @@ pub struct Traced {
     pub count: u64,
 }
 
-// The block whose bits are followed.
-pub struct Source {
+// The run of clocks that bits are followed back through: its variant, the row and the key, and the block at position 0.
+pub struct Run {
     pub variant: u8,
     pub row: Row,
     pub key: Key,
     pub block: u64,
 }
 
-// The round that a clock is in, by its position: a clock number becomes one only through the row's clocks a round.
+// The position at which a clock's round starts: a clock number becomes a position only through the row's clocks a round.
 fn round_of(row: Row, clock: ClockNumber) -> RoundPosition
     requires { ⌜ (1 ≤ row .clocks) × (clock .0 ≤ lastClock) ⌝ }
     ensures { λ r. ⌜ r .0 ≡ clock .0 / row .clocks ⌝ }
@@ -45,8 +45,8 @@ fn entered_at(clock: ClockNumber, i: usize) -> ClockNumber
 }
 
 // A bit of the block by its number.
-fn looked_up(block: u64, i: usize) -> Traced
-    ensures { λ r. ⌜ r ≡ lookedUp block i ⌝ }
+fn block_bit(block: u64, i: usize) -> Traced
+    ensures { λ r. ⌜ r ≡ blockBit block i ⌝ }
 {
     Traced {
         bit: katan_numbers::bit_of(block, i),
@@ -86,38 +86,38 @@ fn fb_of(
     }
 }
 
-// fa of a clock. Each place of L1 has a bit that entered it at an earlier clock, fb of that clock, or one of the block, whose L1
-// begins at bit len2.
-pub fn fa(s: Source, clock: ClockNumber) -> Traced
-    requires { ⌜ (s .row ≡ rowOf (s .variant)) × (clock .0 ≤ lastClock) ⌝ }
-    ensures { λ r. ⌜ r ≡ faAt (s .variant) (keyNumber (s .key)) (s .block) (clock .0) ⌝ }
+// fa of a clock. At each place of L1 stands a bit that entered at an earlier clock, fb of that clock, or a bit of the block, whose
+// L1 begins at block bit len2.
+pub fn fa(run: Run, clock: ClockNumber) -> Traced
+    requires { ⌜ (run .row ≡ rowOf (run .variant)) × (clock .0 ≤ lastClock) ⌝ }
+    ensures { λ r. ⌜ r ≡ faAt (run .variant) (keyNumber (run .key)) (run .block) (clock .0) ⌝ }
 {
     let t = clock.0;
-    let row = s.row;
+    let row = run.row;
     let x1 = if row.x1 < t {
-        fb(s, entered_at(clock, row.x1))
+        fb(run, entered_at(clock, row.x1))
     } else {
-        looked_up(s.block, row.len2 + (row.x1 - t))
+        block_bit(run.block, row.len2 + (row.x1 - t))
     };
     let x2 = if row.x2 < t {
-        fb(s, entered_at(clock, row.x2))
+        fb(run, entered_at(clock, row.x2))
     } else {
-        looked_up(s.block, row.len2 + (row.x2 - t))
+        block_bit(run.block, row.len2 + (row.x2 - t))
     };
     let x3 = if row.x3 < t {
-        fb(s, entered_at(clock, row.x3))
+        fb(run, entered_at(clock, row.x3))
     } else {
-        looked_up(s.block, row.len2 + (row.x3 - t))
+        block_bit(run.block, row.len2 + (row.x3 - t))
     };
     let x4 = if row.x4 < t {
-        fb(s, entered_at(clock, row.x4))
+        fb(run, entered_at(clock, row.x4))
     } else {
-        looked_up(s.block, row.len2 + (row.x4 - t))
+        block_bit(run.block, row.len2 + (row.x4 - t))
     };
     let x5 = if row.x5 < t {
-        fb(s, entered_at(clock, row.x5))
+        fb(run, entered_at(clock, row.x5))
     } else {
-        looked_up(s.block, row.len2 + (row.x5 - t))
+        block_bit(run.block, row.len2 + (row.x5 - t))
     };
     fa_of(
         x1,
@@ -125,46 +125,46 @@ pub fn fa(s: Source, clock: ClockNumber) -> Traced
         x3,
         x4,
         x5,
-        katan_registers::round_input(s.variant, s.key, round_of(row, clock)),
+        katan_registers::round_input(run.variant, run.key, round_of(row, clock)),
     )
 }
 
-// fb of a clock, from the places of L2, which fa enters and which begins at bit 0 of the block.
-pub fn fb(s: Source, clock: ClockNumber) -> Traced
-    requires { ⌜ (s .row ≡ rowOf (s .variant)) × (clock .0 ≤ lastClock) ⌝ }
-    ensures { λ r. ⌜ r ≡ fbAt (s .variant) (keyNumber (s .key)) (s .block) (clock .0) ⌝ }
+// fb of a clock, in the same way from the places of L2, which fa enters and which begins at block bit 0.
+pub fn fb(run: Run, clock: ClockNumber) -> Traced
+    requires { ⌜ (run .row ≡ rowOf (run .variant)) × (clock .0 ≤ lastClock) ⌝ }
+    ensures { λ r. ⌜ r ≡ fbAt (run .variant) (keyNumber (run .key)) (run .block) (clock .0) ⌝ }
 {
     let t = clock.0;
-    let row = s.row;
+    let row = run.row;
     let y1 = if row.y1 < t {
-        fa(s, entered_at(clock, row.y1))
+        fa(run, entered_at(clock, row.y1))
     } else {
-        looked_up(s.block, row.y1 - t)
+        block_bit(run.block, row.y1 - t)
     };
     let y2 = if row.y2 < t {
-        fa(s, entered_at(clock, row.y2))
+        fa(run, entered_at(clock, row.y2))
     } else {
-        looked_up(s.block, row.y2 - t)
+        block_bit(run.block, row.y2 - t)
     };
     let y3 = if row.y3 < t {
-        fa(s, entered_at(clock, row.y3))
+        fa(run, entered_at(clock, row.y3))
     } else {
-        looked_up(s.block, row.y3 - t)
+        block_bit(run.block, row.y3 - t)
     };
     let y4 = if row.y4 < t {
-        fa(s, entered_at(clock, row.y4))
+        fa(run, entered_at(clock, row.y4))
     } else {
-        looked_up(s.block, row.y4 - t)
+        block_bit(run.block, row.y4 - t)
     };
     let y5 = if row.y5 < t {
-        fa(s, entered_at(clock, row.y5))
+        fa(run, entered_at(clock, row.y5))
     } else {
-        looked_up(s.block, row.y5 - t)
+        block_bit(run.block, row.y5 - t)
     };
     let y6 = if row.y6 < t {
-        fa(s, entered_at(clock, row.y6))
+        fa(run, entered_at(clock, row.y6))
     } else {
-        looked_up(s.block, row.y6 - t)
+        block_bit(run.block, row.y6 - t)
     };
     fb_of(
         y1,
@@ -173,6 +173,6 @@ pub fn fb(s: Source, clock: ClockNumber) -> Traced
         y4,
         y5,
         y6,
-        katan_registers::round_input(s.variant, s.key, round_of(row, clock)),
+        katan_registers::round_input(run.variant, run.key, round_of(row, clock)),
     )
 }

@@ -4,7 +4,7 @@ ghost use Prim.Native.Nat.{_≤_};
 ghost use Rattle.katan.specs.Key.{keyNumber};
 ghost use Rattle.katan.specs.Variant.{rowOf};
 ghost use Rattle.katan_origin.specs.Origin.{lastClock, originOf, originOutcome, originAnswer};
-use crate::chains::Source;
+use crate::chains::Run;
 use crate::chains::fa;
 use crate::chains::fb;
 use katan::ClockNumber;
@@ -31,12 +31,12 @@ pub enum OriginAnswer {
 const LAST_CLOCK: usize = 23;
 
 // Both bits of a clock, each by its chain.
-fn both_bits(s: Source, clock: ClockNumber) -> ClockBits
-    requires { ⌜ (s .row ≡ rowOf (s .variant)) × (clock .0 ≤ lastClock) ⌝ }
-    ensures { λ r. ⌜ r ≡ originOf (s .variant) (keyNumber (s .key)) (s .block) (clock .0) ⌝ }
+fn both_bits(run: Run, clock: ClockNumber) -> ClockBits
+    requires { ⌜ (run .row ≡ rowOf (run .variant)) × (clock .0 ≤ lastClock) ⌝ }
+    ensures { λ r. ⌜ r ≡ originOf (run .variant) (keyNumber (run .key)) (run .block) (clock .0) ⌝ }
 {
-    let a = fa(s, clock);
-    let b = fb(s, clock);
+    let a = fa(run, clock);
+    let b = fb(run, clock);
     ClockBits {
         fa: a.bit,
         fb: b.bit,
@@ -59,13 +59,13 @@ pub fn origin(variant: u8, key: &[u8], block: u64, clock: ClockNumber) -> Origin
             if katan_numbers::too_wide(row.n, block) {
                 return OriginAnswer::Refused(Refusal::BadBlock);
             }
-            let s = Source {
+            let run = Run {
                 variant,
                 row,
                 key: katan_numbers::key_of(key),
                 block,
             };
-            OriginAnswer::Found(both_bits(s, clock))
+            OriginAnswer::Found(both_bits(run, clock))
         }
         RowAnswer::Refused(r) => OriginAnswer::Refused(r),
     }

@@ -1,4 +1,4 @@
-// The registers of one block, from one position to another.
+// The registers of one block, from one position to another; and what a round takes.
 ghost use mathlib.Core.Path.{_≡_};
 ghost use Prim.Native.Nat.{_<_, _≤_, _^_};
 ghost use Rattle.katan.specs.Counter.{rounds};

@@ -10,7 +10,7 @@ use lib.ListN.{getD}
 use lib.Pow.{pow-pos}
 use Rattle.katan.specs.Bit.{bit, xor, and}
 use Rattle.katan.specs.Counter.{counter, irOf, rounds}
-use Rattle.katan.specs.Clock.{clock, clocks, round, run, registers}
+use Rattle.katan.specs.Clock.{clock, clocks, run, registers}
 use Rattle.katan.specs.Sizes.{wordBits}
 use Rattle.katan.specs.inner.Within.{Sound, Bits, RegistersFit, Entries}
 use Rattle.katan.specs.declared.Row.{Row}

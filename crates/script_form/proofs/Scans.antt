@@ -2,7 +2,7 @@
 -- Assumes nothing.
 use Prim.Native.Nat.{ℕ, suc, _+_, _*_, _-_, _/_, _%_, _^_, _≤_, _<_}
 use mathlib.Core.Path.{_≡_, refl, sym, ap, _∙_, subst}
-use mathlib.Core.Bool.{Bool, true, false, not, _&&_, false≢true}
+use mathlib.Core.Bool.{Bool, true, false, _&&_, false≢true}
 use mathlib.Core.List.{List, [], _∷_, _++_, append-assoc, append-nil}
 use native.Mathlib.Nat.{add-zero, div-eq-of-lt, mod-eq-of-lt, mul-add-div-right, mul-add-mod-self-right}
 use native.Mathlib.Omega.{arith}
@@ -90,14 +90,6 @@ pub inside : (d p offset : ℕ) (line : List ℕ) (st : Step) → st ≡ pieceIn
 inside d p offset line st e = subst (λ (m : ℕ). Inside m st) (length-drop offset line) (inside-step (pieceOf d p) p (drop offset line) st (sym e))
 
 -- ---- one byte of a form
-
-pub not-true : (b : Bool) → not b ≡ true → b ≡ false
-not-true true e = absurd (false≢true e)
-not-true false e = refl
-
-pub not-false : (b : Bool) → not b ≡ false → b ≡ true
-not-false true e = refl
-not-false false e = absurd (false≢true (sym e))
 
 pub advance-stays : (d : ℕ) (line : List ℕ) (p : ℕ) (f : Fields) → f .ok ≡ false → advance d line p f ≡ f
 unfolding advance

@@ -1,7 +1,7 @@
 //! A tree for the blackboard: the two bits that enter the registers at a clock, and under each of them the
 //! bits that it was made from, down to the block.
 //!
-//!     cargo run --example origin_tree -- [clock [variant [key [block]]]]
+//!     cargo run --release --example origin_tree -- [clock [variant [key [block]]]]
 //!
 //! Key and block are hexadecimal. Without arguments it is clock 4 of KATAN32, with a key of ones and a
 //! block of zeros. The bits that enter are asked of the driver; where they stand, IR and the key bits are
@@ -54,7 +54,7 @@ impl Tree<'_> {
     /// What enters at a clock, and IR, ka and kb of its round.
     fn clock(&self, clock: u64) -> (Origin, [u8; 3]) {
         let entering = origin(self.variant, self.key, self.block, clock)
-            .expect("the tree's own clock, which is not before this one, was answered");
+            .expect("a clock is answered where a later one is");
         let (.., clocks) = self.row;
         let round = clock / clocks;
         let (a, b) = key_bits(self.variant, round);

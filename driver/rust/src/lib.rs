@@ -196,7 +196,7 @@ pub fn keystream(variant: u8, key: &[u8], start: u64, data: &[u8]) -> Result<Vec
 }
 
 /// The last clock that [`origin`] answers. Clock numbers count the clocks from 0, through the rounds:
-/// they are no positions.
+/// they are not positions.
 pub const LAST_CLOCK: u64 = 23;
 
 /// The two bits that enter the registers at a clock, and what it took to follow them back.
@@ -214,7 +214,7 @@ pub struct Origin {
 /// The bits that enter at a clock, found by following each of them back to the block, which is in the
 /// registers at position 0. fa is made from five places of L1 and fb from six of L2. Each holds a bit of
 /// the block, or one that entered at an earlier clock and is followed in its turn. All of them are
-/// followed, x5 also where IR is 0.
+/// followed, x5, the fifth of L1, also where IR, the bit of the round that it is multiplied with, is 0.
 ///
 /// Clock 0 is the first of round 0. A round has 1 clock where n is 32, 2 where n is 48, 3 where n is 64,
 /// so clocks 0 to [`LAST_CLOCK`] are 24, 12 or 8 rounds.
@@ -235,7 +235,7 @@ pub struct Origin {
 /// }
 ///
 /// // Why does a 0 enter L2 at clock 4? Up to clock 3 all places hold zeros of the block, five in L1 and
-/// // six in L2, and what enters are the key's ones.
+/// // six in L2, and what enters is the key's ones.
 /// assert_eq!(origin(1, &key, 0, 3)?, Origin { fa: 1, fb: 1, looked_up: 11 });
 /// // At clock 4 place 3 of L1, which is x5, holds fb of clock 0: a 1, made from six bits. IR is 1, so it
 /// // cancels the key's 1. Place 3 of L2 holds fa of clock 0, made from five.

@@ -54,7 +54,7 @@ fn compared_with_key(random: &mut Random, call: Call, key: &[u8]) -> u8 {
     let expected = model::origin(variant, key, block, clock, &mut theirs[out]);
     let context = format!("{call:x?}, key {key:02x?}");
     assert_eq!(got, expected, "{context}");
-    assert_eq!(ours, theirs, "{context}: the output's words are 2 to 4");
+    assert_eq!(ours, theirs, "{context}: two words stand before the output");
     assert!(got == 0 || ours == lent, "{context}: refused, but written");
     got
 }
@@ -100,14 +100,16 @@ fn bits_that_tell() {
         for clock in 0..=LAST_CLOCK {
             for bit in 0..width(variant) {
                 for block in [1 << bit, last ^ 1 << bit] {
-                    compared(&mut random, sound(variant, block, clock));
+                    let got = compared(&mut random, sound(variant, block, clock));
+                    assert_eq!(got, 0);
                 }
             }
             for bit in 0..80 {
                 let mut key = [0; 10];
                 key[bit / 8] = 1 << (bit % 8);
                 for key in [key, key.map(|byte| !byte)] {
-                    compared_with_key(&mut random, sound(variant, 0, clock), &key);
+                    let got = compared_with_key(&mut random, sound(variant, 0, clock), &key);
+                    assert_eq!(got, 0);
                 }
             }
         }

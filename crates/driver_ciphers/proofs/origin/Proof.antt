@@ -1,3 +1,5 @@
+-- `driver_ciphers::origin` meets its contract.
+-- Assumes nothing.
 use Rattle.driver_ciphers.specs.Calls.{lentChecks, originWords, clockWords}
 use Rattle.driver_ciphers.proofs.Words.{answered}
 use borrow.Author.Needs.{needs}
@@ -7,8 +9,8 @@ use Rattle.driver_ciphers.proofs.origin.Tie as tie
 origin-requires : tie.Need-origin-requires
 origin-requires c κs = search needs
 
-put-bits-requires : tie.Need-put-bits-requires
-put-bits-requires c κs = search needs
+put-origin-requires : tie.Need-put-origin-requires
+put-origin-requires c κs = search needs
 
 same-length : tie.Need-same-length
 same-length c = search needs
@@ -18,7 +20,7 @@ returns c =
     let p = c .before .before in
     let m = p .before .before in
     let a = m .before .before .before .args in
-    answered clockWords (lentChecks (a .variant) originWords (a .out .now)) (a .out .now) (m .origin .ensures) (p .put-bits .ensures)
+    answered clockWords (lentChecks (a .variant) originWords (a .out .now)) (a .out .now) (m .origin .ensures) (p .put-origin .ensures)
 
 pub origin-spec : {M : Type 1} → statement M
-origin-spec = tie.close (tie.spec origin-requires put-bits-requires same-length returns)
+origin-spec = tie.close (tie.spec origin-requires put-origin-requires same-length returns)

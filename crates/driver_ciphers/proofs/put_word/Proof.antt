@@ -1,3 +1,5 @@
+-- `driver_ciphers::put_word` meets its contract.
+-- Assumes nothing.
 use mathlib.Core.Path.{refl}
 use Rattle.katan.proofs.Words.{one-word}
 use Rattle.driver_ciphers.specs.inner.Words.{wordOutcome}

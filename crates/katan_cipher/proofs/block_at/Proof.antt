@@ -2,14 +2,11 @@ use mathlib.Core.Bool.{Bool, true, false}
 use mathlib.Core.Path.{_≡_, sym, ap, _∙_}
 use mathlib.Core.List.{List, [], _∷_}
 use Prim.Native.Nat.{ℕ, _≤_}
-use native.Mathlib.Omega.{arith}
 use borrow.Author.Tests.{eq-eqb, ne-eqb, le-ltb}
-use lib.ListN.{length, take}
-use lib.Seq.{take-all}
+use lib.ListN.{length}
 use Rattle.katan.specs.Bit.{numberIn}
 use Rattle.katan.specs.Counter.{rounds}
-use Rattle.katan.specs.Key.{keyNumber}
-use Rattle.katan.proofs.KeyNumbers.{number-of-key}
+use Rattle.katan.proofs.KeyNumbers.{key-read}
 use Rattle.katan.specs.Sizes.{keyBytes}
 use Rattle.katan.specs.Machine.{registersAt}
 use Rattle.katan.specs.Checks.{value, checked, variantCheck, blockCheck}
@@ -25,12 +22,11 @@ use Rattle.katan_variants.proofs.bad_variant.Reads as bad-variant-reads
 use Rattle.katan_registers.proofs.registers_at.Reads as registers-at-reads
 
 -- with the key and the positions sound, the same checks are left
-answer-is : (v k q p x : ℕ) (key : List ℕ) → variantCheck v .fault ≡ false → length key ≡ keyBytes → q ≤ rounds → p ≤ rounds → k ≡ numberIn (take keyBytes key)
+answer-is : (v k q p x : ℕ) (key : List ℕ) → variantCheck v .fault ≡ false → length key ≡ keyBytes → q ≤ rounds → p ≤ rounds → k ≡ numberIn key
     → registersAnswer v k q p x ≡ blockAnswer v key x (registersAt v (numberIn key) q x p)
 answer-is v k q p x key sound ten hq hp e =
-    let whole : numberIn (take keyBytes key) ≡ numberIn key = ap numberIn (take-all keyBytes key (omega arith)) in
     rw (sound, eq-eqb (length key) keyBytes ten, le-ltb rounds q hq, le-ltb rounds p hp)
-    (ap (λ (n : ℕ). checked (blockCheck v x ∷ []) (value (registersAt v n q x p))) (e ∙ whole))
+    (ap (λ (n : ℕ). checked (blockCheck v x ∷ []) (value (registersAt v n q x p))) e)
 
 sound : (v : ℕ) (b : Bool) → b ≡ variantCheck v .fault → b ≡ false → variantCheck v .fault ≡ false
 sound v b e f = sym e ∙ f
@@ -60,8 +56,9 @@ returns-3 c =
     let m = c .before .before .before in
     let d = m .before .before .before in
     let a = d .args in
+    let ten = c .before .before .if2 .left in
     c .registers-at .ensures
-    ∙ answer-is (a .variant) _ (a .from .0) (a .to .0) (a .x) (a .key .now) (sound (a .variant) _ (m .before .bad-variant .ensures) (m .if1 .left)) (c .before .before .if2 .left) (d .pre .0) (d .pre .1) (ap keyNumber (c .before .key-of .ensures) ∙ number-of-key _)
+    ∙ answer-is (a .variant) _ (a .from .0) (a .to .0) (a .x) (a .key .now) (sound (a .variant) _ (m .before .bad-variant .ensures) (m .if1 .left)) ten (d .pre .0) (d .pre .1) (key-read (a .key .now) _ ten (c .before .key-of .ensures))
 
 pub block-at-spec : {M : Type 1} → statement M
 block-at-spec = tie.close (tie.spec bad-variant-requires returns returns-2 key-of-requires registers-at-requires returns-3)

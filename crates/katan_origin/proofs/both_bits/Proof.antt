@@ -18,7 +18,7 @@ add-t5 : tie.Need-add-t5
 add-t5 c =
     let b = c .before .before in
     let d = b .before .before in
-    let s = d .args .s in
+    let s = d .args .run in
     record { fits = rw (b .before .fa .ensures, b .fb .ensures) (room-for-both (s .variant) (keyNumber (s .key)) (s .block) (d .args .clock .0) (d .pre .1)) }
 
 abbrev together : Traced → Traced → ClockBits

@@ -11,9 +11,9 @@ use Rattle.katan.specs.Sizes.{keyBytes}
 use Rattle.katan.specs.Variant.{rowOf}
 use Rattle.katan.specs.declared.Row.{Row}
 use Rattle.katan.proofs.Checked.{no-fault-found, fault-after}
+use Rattle.katan.proofs.KeyNumbers.{key-read}
 use Rattle.katan.proofs.Variants.{row-found, row-refused}
 use Rattle.katan_origin.specs.Origin.{lastClock, clockCheck, originOf, originChecks, originAnswer}
-use Rattle.katan_origin.proofs.Places.{key-read}
 use borrow.Author.Needs.{needs}
 use Rattle.katan_origin.proofs.origin.Statement.{statement}
 use Rattle.katan_origin.proofs.origin.Tie as tie

@@ -3,7 +3,8 @@ use mathlib.Core.Path.{_∙_, sym, ap}
 use lib.ListN.{length}
 use Rattle.script_form.specs.scanner.Scan.{after}
 use Rattle.script_form.specs.declared.pieces.Step.the-variants.{Letter, Field, Words}
-use Rattle.script_form.proofs.Scans.{inside, not-true, not-false, advance-stays, advance-after}
+use borrow.Author.Tests.{not-true, not-false}
+use Rattle.script_form.proofs.Scans.{inside, advance-stays, advance-after}
 use borrow.Author.Needs.{needs}
 use Rattle.script_form.proofs.advanced.Statement.{statement}
 use Rattle.script_form.proofs.advanced.Tie as tie

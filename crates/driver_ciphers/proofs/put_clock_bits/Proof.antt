@@ -1,7 +1,9 @@
+-- `driver_ciphers::put_clock_bits` meets its contract.
+-- Assumes nothing.
 use Rattle.katan.proofs.Words.{three-words}
 use borrow.Author.Needs.{needs}
-use Rattle.driver_ciphers.proofs.put_clock.Statement.{statement}
-use Rattle.driver_ciphers.proofs.put_clock.Tie as tie
+use Rattle.driver_ciphers.proofs.put_clock_bits.Statement.{statement}
+use Rattle.driver_ciphers.proofs.put_clock_bits.Tie as tie
 
 slice-write-out : tie.Need-slice-write-out
 slice-write-out c = search needs
@@ -18,6 +20,6 @@ same-length c = search needs
 returns : tie.Need-returns
 returns c = let a = c .args in three-words (a .bits .fa) (a .bits .fb) (a .bits .«looked_up») (a .out .now) (c .pre)
 
-pub put-clock-spec : {M : Type 1} → statement M
-put-clock-spec =
+pub put-clock-bits-spec : {M : Type 1} → statement M
+put-clock-bits-spec =
     tie.close (tie.spec slice-write-out slice-write-out-2 slice-write-out-3 same-length returns)

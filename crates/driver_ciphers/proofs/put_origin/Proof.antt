@@ -1,10 +1,12 @@
+-- `driver_ciphers::put_origin` meets its contract.
+-- Assumes nothing.
 use mathlib.Core.Path.{refl}
 use Rattle.katan_origin.specs.Origin.{originOutcome}
 use Rattle.driver_ciphers.specs.Calls.{originWords}
 use Rattle.driver_ciphers.proofs.Words.{lent-length, passes, refuses}
 use borrow.Author.Needs.{needs}
-use Rattle.driver_ciphers.proofs.put_bits.Statement.{statement}
-use Rattle.driver_ciphers.proofs.put_bits.Tie as tie
+use Rattle.driver_ciphers.proofs.put_origin.Statement.{statement}
+use Rattle.driver_ciphers.proofs.put_origin.Tie as tie
 
 checked-lent-requires : tie.Need-checked-lent-requires
 checked-lent-requires c κs = search needs
@@ -15,8 +17,8 @@ enum-told c = search needs
 enum-known-answer : tie.Need-enum-known-answer
 enum-known-answer c = search needs
 
-put-clock-requires : tie.Need-put-clock-requires
-put-clock-requires c κs =
+put-clock-bits-requires : tie.Need-put-clock-bits-requires
+put-clock-bits-requires c κs =
     let t = c .before .before .before .before in
     let l = t .before .before in
     let a = l .before .before .args in
@@ -46,7 +48,7 @@ returns c =
     let a = l .before .before .args in
     let is = l .checked-lent .ensures (a .out .now) refl in
     let sound = t .enum-told .given .1 in
-    rw (passes (a .variant) originWords (a .out .now) _ is (originOutcome (a .answer)) sound, c .before .before .before .before .before .answer .given .1) (refl, c .before .before .put-clock .ensures)
+    rw (passes (a .variant) originWords (a .out .now) _ is (originOutcome (a .answer)) sound, c .before .before .before .before .before .answer .given .1) (refl, c .before .before .put-clock-bits .ensures)
 
 returns-2 : tie.Need-returns-2
 returns-2 c =
@@ -64,14 +66,14 @@ returns-3 c =
     let is = l .checked-lent .ensures (a .out .now) refl in
     rw (refuses (a .variant) originWords (a .out .now) _ is (originOutcome (a .answer)) _ (c .before .before .r .given .1)) (c .refusal-number2 .ensures, refl)
 
-pub put-bits-spec : {M : Type 1} → statement M
-put-bits-spec =
+pub put-origin-spec : {M : Type 1} → statement M
+put-origin-spec =
     tie.close
     (tie.spec
     checked-lent-requires
     enum-told
     enum-known-answer
-    put-clock-requires
+    put-clock-bits-requires
     enum-known-answer-2
     refusal-number-requires
     enum-known-r
