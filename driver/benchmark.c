@@ -302,6 +302,46 @@ static void preview_table(void) {
     }
 }
 
+// ---- all lanes on the screen, beside 64 single reads
+
+static void read_all(uint64_t *to) {
+    for (int lane = 0; lane < LANES; lane++) {
+        uint64_t read[KATAN_READING_WORDS];
+        must(katan_read(bench, sizeof bench, lane, read, KATAN_READING_WORDS) == 0, "a read was refused");
+        to[lane] = read[1];
+    }
+}
+
+static void screen_table(void) {
+    enum { CALLS = 20 };
+    printf("\nAll lanes on the screen, 64 loaded and named\n");
+    printf("variant   times as fast as 64 reads   times as fast as plain C   (ns)\n");
+    for (int variant = 1; variant <= 6; variant++) {
+        uint64_t shown, shown_by_c, by_c[LANES], read[LANES];
+        double screen = 1e18, reads = 1e18, plain = 1e18;
+        load_and_keep(variant);
+        for (int repeat = 0; repeat < REPEATS; repeat++) {
+            double a = nanoseconds();
+            for (int call = 0; call < CALLS; call++) {
+                must(katan_screen(bench, sizeof bench, UINT64_MAX, out, LANES, &shown, 1) == 0, "a screen was refused");
+            }
+            double b = nanoseconds();
+            read_all(read);
+            double c = nanoseconds();
+            for (int call = 0; call < CALLS; call++) {
+                must(peer_screen(bench, UINT64_MAX, by_c, &shown_by_c) == 0, "a screen was refused");
+            }
+            double d = nanoseconds();
+            must(shown == UINT64_MAX && shown_by_c == shown && memcmp(out, read, sizeof read) == 0 && memcmp(by_c, read, sizeof read) == 0,
+                 "results differ");
+            if ((b - a) / CALLS < screen) screen = (b - a) / CALLS;
+            if (c - b < reads) reads = c - b;
+            if ((d - c) / CALLS < plain) plain = (d - c) / CALLS;
+        }
+        printf("%-9d %-27.0f %-26.2f %.0f\n", variant, reads / screen, plain / screen, screen);
+    }
+}
+
 // ---- a sheet of traces: single steps of all lanes, 254 forward and 254 back, without the reads between them. Each
 // step's time is its best in 20 sheets; mean and dearest are over these. Plain C writes out a lane's key bits once and
 // stores the registers after each round, lane by lane.
@@ -368,6 +408,7 @@ int main(void) {
     origin_table();
     bench_table();
     preview_table();
+    screen_table();
     sheet_table();
     return 0;
 }

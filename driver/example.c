@@ -1,7 +1,7 @@
 // A bench is opened and a lane loaded. The step is previewed, and the lane has not moved; a garbled copy of the step is previewed too. Then the
 // lane is stepped; the answer to the step is lost, so the step is sent once more: first garbled on its way, which gets 10, since a record of
-// that number has counted, then whole. The lane is read. Then the load, the step and the read as one list of calls. At last the two bits that entered in the
-// step's last round, followed back to the block.
+// that number has counted, then whole. The lane is read. A second lane is loaded, and both are on one screen, with an empty one between them. Then the
+// first load, the step and the read as one list of calls. At last the two bits that entered in the step's last round, followed back to the block.
 #include "katan_bench.h"
 
 #include <stdio.h>
@@ -90,6 +90,20 @@ static void read_lane(uint64_t lane) {
         printf("lane %u: status %d\n", (unsigned)lane, status);
 }
 
+// The lanes that a mask names, in one call.
+static void screen(uint64_t mask) {
+    uint64_t registers[KATAN_LANES], shown;
+    accepted(katan_screen(bench, sizeof bench, mask, registers, KATAN_LANES, &shown, 1));
+    printf("screen: shown %x", (unsigned)shown);
+    for (int i = 0; i < KATAN_LANES; i++) {
+        if (shown >> i & 1)
+            printf("; lane %d: %08x", i, (unsigned)registers[i]);
+        else if (mask >> i & 1)
+            printf("; lane %d: empty", i);
+    }
+    printf("\n");
+}
+
 int main(void) {
     uint8_t key[KATAN_KEY_LENGTH];
     uint8_t loading[KATAN_RECORD_LENGTH];
@@ -116,6 +130,13 @@ int main(void) {
     send(step);
     read_lane(0);
     read_lane(1);
+
+    // under a key of zeros a block of zeros stays: only the mask shown tells lane 2 from lane 1, which is empty
+    uint8_t zeros[KATAN_KEY_LENGTH] = {0};
+    uint8_t second[KATAN_RECORD_LENGTH];
+    load(second, 3, 2, 0, zeros, 0);
+    send(second);
+    screen(7);
 
     // the load, the step and a read of lane 0, as a list
     uint8_t calls[3 * KATAN_CALL_HEAD_LENGTH + 2 * KATAN_RECORD_LENGTH];

@@ -3,11 +3,11 @@
  * shows them in use.
  *
  * Status. Each call but katan_version and katan_cycles returns 0, or the number of the first fault found. The faults
- * are looked for by rising number, as each call says under "Checked", with four exceptions: katan_arrive, katan_preview
- * and katan_read look at the bench's length (2), then at the bench (1), then at the other lengths (2); katan_arrive and
- * katan_preview look at a record's turn (9, 10) before its form (3 to 8); katan_keystream looks for 14 before 7, and
- * katan_origin for 15 before 7. A refused call leaves all lent memory as it was, with one exception: katan_preview
- * writes its room also where it is refused, unless bench or room has another length.
+ * are looked for by rising number, as each call says under "Checked", with four exceptions: katan_arrive,
+ * katan_preview, katan_read and katan_screen look at the bench's length (2), then at the bench (1), then at the other
+ * lengths (2); katan_arrive and katan_preview look at a record's turn (9, 10) before its form (3 to 8); katan_keystream
+ * looks for 14 before 7, and katan_origin for 15 before 7. A refused call leaves all lent memory as it was, with one
+ * exception: katan_preview writes its room also where it is refused, unless bench or room has another length.
  *
  * Slices. A slice is lent as a pointer and then its length, in elements, not in bytes. A length other than the one
  * named at the call gets KATAN_BAD_LENGTH; data too long for a keystream gets KATAN_BEYOND_END. A pointer is aligned
@@ -40,7 +40,7 @@ extern "C" {
  * The version of this header: it rises with every new call, and with every change of a call's parameters, its numbers
  * or a layout. A driver compares it with katan_version(), which the archive was built with.
  */
-#define KATAN_VERSION 6
+#define KATAN_VERSION 7
 
 /* The variants. The number in a name is n, the bits of a block: 32, 48 or 64. */
 #define KATAN32 1
@@ -56,7 +56,7 @@ extern "C" {
  */
 #define KATAN_OK 0              /* not refused */
 #define KATAN_BAD_VARIANT 1     /* the variant is not 1 to 6 (every call with a status), or a lane of the bench handed
-                                   in is damaged (katan_arrive, katan_preview, katan_read) */
+                                   in is damaged (katan_arrive, katan_preview, katan_read, katan_screen) */
 #define KATAN_BAD_LENGTH 2      /* lent memory has another length, there are 0 or over 64 blocks, or a list is not whole
                                    calls of the two kinds (every call with a status) */
 #define KATAN_BAD_KIND 3        /* the record's kind is not 1 to 4 (katan_arrive, katan_preview) */
@@ -68,7 +68,8 @@ extern "C" {
 #define KATAN_BAD_BLOCK 7       /* a block, or the start of a keystream, is 2^n or more, never so where n is 64
                                    (katan_encrypt, katan_decrypt, both for many blocks, katan_keystream, katan_origin,
                                    katan_arrive, katan_preview) */
-#define KATAN_EMPTY_MASK 8      /* the mask of a move or clear is 0 (katan_arrive, katan_preview) */
+#define KATAN_EMPTY_MASK 8      /* the mask of a move or clear, or of a screen, is 0 (katan_arrive, katan_preview,
+                                   katan_screen) */
 #define KATAN_OUT_OF_TURN 9     /* the number is neither last + 1 nor a nonzero last; numbers do not wrap, and after
                                    4,294,967,295 no further record counts (katan_arrive, katan_preview) */
 #define KATAN_OTHER_BYTES 10    /* the number is last but the bytes differ (katan_arrive, katan_preview) */
@@ -80,7 +81,7 @@ extern "C" {
 
 #define KATAN_ROUNDS 254                /* positions are 0 to 254: the rounds that a block has behind it */
 #define KATAN_LAST_CLOCK 23             /* clock numbers are 0 to 23, and are not positions (katan_origin) */
-#define KATAN_LANES 64                  /* of a bench, and the most blocks of a call for many */
+#define KATAN_LANES 64                  /* of a bench and of a screen, and the most blocks of a call for many */
 #define KATAN_HIGHEST_RATE 2940000000u  /* in hertz */
 
 /* Lengths in bytes. */
@@ -142,11 +143,11 @@ extern "C" {
  *         bytes 2 to 11          its key: key bit 8 j + b is bit b of byte j of the key
  *         bytes 12 to 19         its registers, below 2^n
  *
- * A bench may hold any bytes: katan_arrive, katan_preview and katan_read check every lane of it. A lane with another
- * state, or a loaded one with a position over 254 or a register bit set at n or above, is damaged, and all three return
- * KATAN_BAD_VARIANT. Of an empty lane only the state is looked at and written: the other bytes are kept, and the
- * driver may overwrite them. SO A LANE THAT IS CLEARED KEEPS ITS OLD KEY in memory until it is loaded again or the
- * driver wipes it, and two benches whose lanes are alike may differ there.
+ * A bench may hold any bytes: katan_arrive, katan_preview, katan_read and katan_screen check every lane of it. A lane
+ * with another state, or a loaded one with a position over 254 or a register bit set at n or above, is damaged, and all
+ * four return KATAN_BAD_VARIANT. Of an empty lane only the state is looked at and written: the other bytes are kept,
+ * and the driver may overwrite them. SO A LANE THAT IS CLEARED KEEPS ITS OLD KEY in memory until it is loaded again or
+ * the driver wipes it, and two benches whose lanes are alike may differ there.
  *
  * The layout of a link:
  *
@@ -297,8 +298,8 @@ uint8_t katan_arrive(uint8_t *bench, size_t bench_length, uint8_t *link, size_t 
  * has another length there is no bench to show or no room for it, and nothing is written. Empty lanes are copied whole:
  * the old key of a lane that was cleared is in the room too.
  *
- * No link goes with the room: it is for looking at, also by katan_read. To commit, send the record to katan_arrive. With
- * the room in the bench's place the link would not know the record, and it would be done twice.
+ * No link goes with the room: it is for looking at, also by katan_read and katan_screen. To commit, send the record to
+ * katan_arrive. With the room in the bench's place the link would not know the record, and it would be done twice.
  *
  * The status is katan_arrive's but for the room: one of another length gets 2 after 1, also where the record would
  * count. Checked: 2 of `bench`; 1; 2 of `link`, `answer`, `room` and `record`; 9, 10; 3 to 8.
@@ -313,6 +314,21 @@ uint8_t katan_preview(const uint8_t *bench, size_t bench_length, const uint8_t *
  */
 uint8_t katan_read(const uint8_t *bench, size_t bench_length, uint64_t lane,
                    uint64_t *answer, size_t answer_length);
+
+/*
+ * All lanes on the screen: reads every lane that a mask names, bit i naming lane i, in one call. `out` has KATAN_LANES
+ * elements and `shown` has 1, holding anything. The bench is only read.
+ *
+ * On status 0 all of them are written. Element i of `out` is the registers of lane i, at whatever position, where the
+ * mask names it and it is loaded, and 0 for every other lane. `shown` is the mask of the named lanes that are loaded: it
+ * tells a lane whose registers are 0 from one left out. The registers, and the named lanes left out as empty, are those
+ * of single calls of katan_read; positions are not given. A mask that names empty lanes alone is no fault: `shown` and
+ * all of `out` are 0 then.
+ *
+ * Checked: 2 of `bench`; 1, of all its lanes, also those that the mask does not name; 2 of `out` and `shown`; 8.
+ */
+uint8_t katan_screen(const uint8_t *bench, size_t bench_length, uint64_t mask,
+                     uint64_t *out, size_t out_length, uint64_t *shown, size_t shown_length);
 
 /*
  * A whole list of calls, run on a fresh bench and link. Numbers are low byte first.

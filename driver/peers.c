@@ -179,6 +179,27 @@ void peer_origin(int variant, const u8 *key, u64 block, int clock, u64 *out) {
     out[2] = a.count + b.count;
 }
 
+// ---- all lanes on the screen
+
+int peer_screen(const u8 *bench, u64 mask, u64 *out, u64 *shown) {
+    u64 numbers[LANES], found = 0;
+    if (bench[0] < 1 || bench[0] > 6) return 1;
+    int n = width(bench[0]);
+    for (int i = 0; i < LANES; i++) {
+        const u8 *lane = bench + 1 + 20 * i;
+        u64 registers;
+        memcpy(&registers, lane + 12, 8);
+        if (lane[0] > 1 || (lane[0] == 1 && (lane[1] > 254 || (n < 64 && registers >> n)))) return 1;
+        u64 bit = lane[0] & mask >> i;
+        numbers[i] = bit ? registers : 0;
+        found |= bit << i;
+    }
+    if (mask == 0) return 8;
+    memcpy(out, numbers, sizeof numbers);
+    *shown = found;
+    return 0;
+}
+
 // ---- bit-sliced, in the way of the ciphers' authors: word i of a register holds bit i of all lanes
 
 INLINE void sliced_rounds(int len1, int len2, int x2, int x3, int x4, int x5, int y2, int y3, int y4, int y5, int y6, int clocks,

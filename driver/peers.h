@@ -31,6 +31,10 @@ void peer_sheet(int variant, const uint8_t *keys, const uint64_t *blocks, uint64
 // fa and fb of a clock, followed back to the block by two functions that call each other, and the block bits looked up.
 void peer_origin(int variant, const uint8_t *key, uint64_t block, int clock, uint64_t *out);
 
+// Every lane of a mask, from a bench's memory with all lengths right: the checks 1 and 8, the registers of those that
+// are loaded and 0 for others, and the mask of those.
+int peer_screen(const uint8_t *bench, uint64_t mask, uint64_t *out, uint64_t *shown);
+
 // Counter mode with peer_scalar's code, one block at a time: the key bits are made once for the message.
 void peer_keystream(int variant, const uint8_t *key, uint64_t start, const uint8_t *data, uint8_t *out, size_t length);
 

@@ -1,6 +1,7 @@
 //! The bench of 64 lanes and its link: document 01's "One-block machine", "Records and turns" and
-//! checks 1 to 11 of "Turned away", in the order of document 02, (vi). A lane's registers are
-//! computed from its key, block, load position and position whenever it is read; they are not kept.
+//! checks 1 to 11 of "Turned away", in the order of document 02, (vi); and the screen of document 02,
+//! (viii). A lane's registers are computed from its key, block, load position and position whenever it
+//! is read; they are not kept.
 
 use crate::cipher::{registers_at, Variant, ROUNDS};
 
@@ -25,6 +26,14 @@ pub enum Reply {
 #[derive(Clone, Copy, Debug, PartialEq, Eq)]
 pub enum Reading {
     At { position: u8, registers: u64 },
+    Refused(u8),
+}
+
+/// The answer to a read of every lane in a mask: 64 numbers, and the mask of the lanes whose registers are
+/// among them.
+#[derive(Clone, Copy, Debug, PartialEq, Eq)]
+pub enum Screen {
+    Shows { registers: [u64; LANES], lanes: u64 },
     Refused(u8),
 }
 
@@ -341,6 +350,23 @@ impl Bench {
                 registers: registers_at(self.variant, &key, q, p, block),
             },
         }
+    }
+
+    /// The registers of each named lane that is loaded, 0 for every other lane, and the mask of the named
+    /// loaded lanes. 8: the mask is 0.
+    pub fn screen(&self, mask: u64) -> Screen {
+        if mask == 0 {
+            return Screen::Refused(8);
+        }
+        let (mut registers, mut lanes) = ([0; LANES], 0);
+        for (lane, machine) in self.machines.iter().enumerate() {
+            let named = mask >> lane & 1 == 1;
+            if let (true, Machine::Loaded { key, block, q, p }) = (named, machine) {
+                registers[lane] = registers_at(self.variant, key, *q, *p, *block);
+                lanes |= 1 << lane;
+            }
+        }
+        Screen::Shows { registers, lanes }
     }
 }
 
@@ -715,6 +741,97 @@ mod tests {
             assert_eq!(arrive(&mut bench, &record), done(1, 0));
             assert_eq!(bench.read(0), at(0, largest));
         }
+    }
+
+    /// Lanes at different positions, a cleared one and others that were never loaded. The zero block
+    /// under a zero key is zero at each position: only the mask tells it from an empty lane.
+    #[test]
+    fn screens() {
+        let mut bench = Bench::new(1).unwrap();
+        let records = [
+            load(1, 0, 0, &ONES, 0),
+            load(2, 1, 9, &ONES, 0xffff_ffff),
+            load(3, 2, 100, &ZERO, 0),
+            load(4, 63, 254, &ONES, 0x8000_0000),
+            forward(5, 5, 5),
+            clear(6, 2),
+        ];
+        for record in records {
+            assert!(matches!(arrive(&mut bench, &record), Done { .. }));
+        }
+        let shows = |lanes| {
+            let mut registers = [0; LANES];
+            for (lane, shown) in [(0, 0x00f8001e), (63, 0x8000_0000)] {
+                registers[lane] = (lanes >> lane & 1) * shown;
+            }
+            Screen::Shows { registers, lanes }
+        };
+        let cases = [
+            (ALL, 1 << 63 | 5),
+            (1, 1),
+            (2, 0),
+            (4, 4),
+            (7, 5),
+            (1 << 63, 1 << 63),
+            (1 << 62, 0),
+            (!(1 << 63 | 5), 0),
+            (!1, 1 << 63 | 4),
+        ];
+        for (mask, lanes) in cases {
+            assert_eq!(bench.screen(mask), shows(lanes), "{mask:x}");
+        }
+        assert_eq!(bench.screen(0), Screen::Refused(8));
+    }
+
+    /// A fresh bench shows no lane; a mask of 0 is refused there too.
+    #[test]
+    fn screens_of_a_fresh_bench() {
+        let nothing = Screen::Shows {
+            registers: [0; LANES],
+            lanes: 0,
+        };
+        for variant in 1..=6 {
+            let bench = Bench::new(variant).unwrap();
+            for mask in (0..64).map(|lane| 1 << lane).chain([ALL]) {
+                assert_eq!(bench.screen(mask), nothing, "{mask:x}");
+            }
+            assert_eq!(bench.screen(0), Screen::Refused(8));
+        }
+    }
+
+    /// Request (viii): the registers given, and the named lanes left out as empty, are those of the single
+    /// reads.
+    #[test]
+    fn screens_and_single_reads() {
+        let mut random = Random::new(13);
+        let (mut shown, mut left_out) = (0, 0);
+        for variant in Variant::ALL {
+            let mut bench = Bench::new(variant.number()).unwrap();
+            for number in 1..=60 {
+                let record = random_record(&mut random, variant.width());
+                arrive(&mut bench, &numbered(&record, number));
+                let mask = random.lanes() | 1 << random.below(64);
+                let Screen::Shows { registers, lanes } = bench.screen(mask) else {
+                    panic!("{mask:x} is refused");
+                };
+                for (lane, given) in registers.into_iter().enumerate() {
+                    let is_shown = lanes >> lane & 1 == 1;
+                    match (mask >> lane & 1, bench.read(lane as u64)) {
+                        (1, Reading::At { registers, .. }) => {
+                            assert_eq!((is_shown, given), (true, registers));
+                            shown += 1;
+                        }
+                        (1, reading) => {
+                            assert_eq!(reading, Reading::Refused(11));
+                            assert_eq!((is_shown, given), (false, 0));
+                            left_out += 1;
+                        }
+                        _ => assert_eq!((is_shown, given), (false, 0)),
+                    }
+                }
+            }
+        }
+        assert!(shown > 500 && left_out > 500, "{shown}, {left_out}");
     }
 
     /// A load at 0 read at 254 encrypts; the reverse decrypts.

@@ -1,7 +1,7 @@
 //! The driver's calls: what they return and what they leave in the memory lent to them, from the
 //! layout that the driver's header documents.
 
-use crate::bench::{Bench, Lane, Reading, Reply, LANES, RECORD_LENGTH};
+use crate::bench::{Bench, Lane, Reading, Reply, Screen, LANES, RECORD_LENGTH};
 use crate::calls::{
     call_decrypt, call_encrypt, call_keystream, call_many, call_origin, Direction, Refusal,
 };
@@ -232,6 +232,29 @@ pub fn read(bench: &[u8], lane: u64, answer: &mut [u64]) -> u8 {
     }
 }
 
+/// The output is a number for each lane: its registers where the mask names it and it is loaded, and 0
+/// otherwise. `shown` is the mask of the named loaded lanes.
+pub fn screen(bench: &[u8], mask: u64, out: &mut [u64], shown: &mut [u64]) -> u8 {
+    if bench.len() != BENCH_LENGTH {
+        return BAD_LENGTH;
+    }
+    let model = match bench_in(bench, &[]) {
+        Ok(model) => model,
+        Err(check) => return check,
+    };
+    if out.len() != LANES || shown.len() != 1 {
+        return BAD_LENGTH;
+    }
+    match model.screen(mask) {
+        Screen::Shows { registers, lanes } => {
+            out.copy_from_slice(&registers);
+            shown[0] = lanes;
+            0
+        }
+        Screen::Refused(check) => check,
+    }
+}
+
 #[cfg(test)]
 mod tests {
     use super::*;
@@ -333,5 +356,78 @@ mod tests {
         let (mut answer, mut room) = ([7; 4], vec![0x99; BENCH_LENGTH]);
         assert_eq!(preview(&bench, &link, &sent, &mut answer, &mut room), 2);
         assert!(answer == [7; 4] && room == bench);
+    }
+
+    /// Status, output and mask shown, of so many words that held something else.
+    fn on_screen(bench: &[u8], mask: u64, out: usize, shown: usize) -> (u8, Vec<u64>, Vec<u64>) {
+        let (mut out, mut shown) = (vec![0x99; out], vec![0x55; shown]);
+        let status = screen(bench, mask, &mut out, &mut shown);
+        (status, out, shown)
+    }
+
+    /// Lane 0 is shown after a step. Nothing is shown of the cleared lane, which keeps its bytes, nor of
+    /// lanes that were never loaded.
+    #[test]
+    fn screens_of_memory() {
+        let (mut bench, mut link) = memory();
+        let step = forward(4, 1, 5);
+        assert_eq!(arrive(&mut bench, &mut link, &step, &mut [0; 3]), 0);
+        let mut registers = vec![0; LANES];
+        registers[0] = 0x00f8001e;
+        for mask in [1, 3, 1 << 9 | 1, u64::MAX] {
+            let expected = (0, registers.clone(), vec![1]);
+            assert_eq!(on_screen(&bench, mask, LANES, 1), expected, "{mask:x}");
+        }
+        for mask in [2, 1 << 9, 1 << 63, !1] {
+            let expected = (0, vec![0; LANES], vec![0]);
+            assert_eq!(on_screen(&bench, mask, LANES, 1), expected, "{mask:x}");
+        }
+    }
+
+    /// The bench's length, then the bench, then the other lengths, then the mask; a refusal writes
+    /// nothing.
+    #[test]
+    fn screens_refused() {
+        let (bench, _) = memory();
+        // The byte written over, the bytes of the bench, the mask, the words of output and mask shown,
+        // and the refusal's number.
+        let sound = (0, 1);
+        let cases = [
+            (sound, 1281, 0, 64, 1, 8),
+            (sound, 1281, 1, 63, 1, 2),
+            (sound, 1281, 1, 65, 1, 2),
+            (sound, 1281, 1, 64, 0, 2),
+            (sound, 1281, 1, 64, 2, 2),
+            (sound, 1281, 0, 0, 1, 2),
+            (sound, 1280, 1, 64, 1, 2),
+            (sound, 1282, 0, 64, 1, 2),
+            ((0, 7), 1281, 1, 64, 1, 1),
+            ((0, 0), 1281, 0, 63, 2, 1),
+            ((0, 7), 1280, 0, 64, 1, 2),
+            // Lane 1, which no mask here names: a state that is neither.
+            ((21, 2), 1281, 1, 64, 1, 1),
+            // Lane 0: a position over 254, a register bit at n.
+            ((2, 255), 1281, 2, 64, 1, 1),
+            ((17, 1), 1281, 2, 64, 0, 1),
+            ((17, 1), 1282, 2, 64, 1, 2),
+        ];
+        for ((at, byte), bench_length, mask, out, shown, check) in cases {
+            let mut damaged = bench.clone();
+            damaged[at] = byte;
+            damaged.resize(bench_length, 0);
+            let expected = (check, vec![0x99; out], vec![0x55; shown]);
+            assert_eq!(
+                on_screen(&damaged, mask, out, shown),
+                expected,
+                "byte {at} is {byte}, {bench_length} bytes, mask {mask:x}"
+            );
+        }
+        // The lane that was cleared may hold anything.
+        let mut other = bench.clone();
+        other[182..201].fill(0xff);
+        assert_eq!(
+            on_screen(&other, u64::MAX, LANES, 1),
+            on_screen(&bench, u64::MAX, LANES, 1)
+        );
     }
 }

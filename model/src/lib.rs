@@ -15,7 +15,7 @@ pub mod scripts;
 pub mod stream;
 pub mod vectors;
 
-pub use bench::{Bench, Reading, Reply};
+pub use bench::{Bench, Reading, Reply, Screen};
 pub use calls::Refusal;
 pub use cipher::{decrypt, encrypt, registers_at, trace, Variant, ROUNDS};
 pub use random::Random;

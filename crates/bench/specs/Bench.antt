@@ -3,7 +3,7 @@
 use Prim.Native.Nat.{ℕ}
 use mathlib.Core.List.{List, map}
 use lib.ListN.{replicate}
-use Rattle.katan.specs.Checks.{numberOf, Outcome, value, refused}
+use Rattle.katan.specs.Checks.{numberOf, Outcome, value, refused, Check}
 use Rattle.katan.specs.Sizes.{laneCount}
 use Rattle.bench_record.specs.Fields.{recordLength, decode, kind}
 use Rattle.bench.specs.declared.Lane.{Lane}
@@ -17,7 +17,7 @@ use Rattle.bench.specs.declared.ArrivalResult.{ArrivalResult}
 use Rattle.bench.specs.declared.ReadAnswer.{ReadAnswer}
 use Rattle.bench.specs.declared.ReadAnswer.the-variants.{At, Refused as ReadRefused}
 use Rattle.bench.specs.Calls.{Call, arrival, reading, done, again, at, Answer}
-use Rattle.bench.specs.Checks.{LaneView, emptyLane, loadedLane, View, Turn, counts, repeats, decision, readOutcome}
+use Rattle.bench.specs.Checks.{LaneView, emptyLane, loadedLane, View, benchCheck, Turn, counts, repeats, decision, readOutcome}
 use Rattle.bench.specs.Steps.{slotsAs, totalAs}
 
 -- ---- document 01's answer for each case of an enum
@@ -53,8 +53,15 @@ laneView (Held h) = loadedLane (record { position = h .position; registers = h .
 abbrev pub slotView : Slot → LaneView
 slotView s = laneView (s .lane)
 
+abbrev pub lanesOf : Bench → List LaneView
+lanesOf b = map slotView (b .slots)
+
 unfoldable pub benchView : Bench → Link → View
-benchView b l = record { variant = b .variant; lanes = map slotView (b .slots); last = l .last; latest = l .bytes }
+benchView b l = record { variant = b .variant; lanes = lanesOf b; last = l .last; latest = l .bytes }
+
+-- 1 of the bench passed in
+abbrev pub heldCheck : Bench → Check
+heldCheck b = benchCheck (b .variant) (lanesOf b)
 
 -- ---- an arrival and a read
 
@@ -89,7 +96,7 @@ effectOf a = record { bench = a .bench; link = a .link; answer = replyAnswer (a 
 
 -- a read
 unfoldable pub readOf : Bench → ℕ → Answer
-readOf b i = readOutcome (b .variant) (map slotView (b .slots)) i
+readOf b i = readOutcome (b .variant) (lanesOf b) i
 
 -- ---- the calls of a list
 

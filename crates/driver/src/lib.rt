@@ -1,4 +1,4 @@
-// The calls of a driver in C or Rust, for each a function of `driver_ciphers` or `driver_bench` with the same promise. Each but `katan_version` and
+// The calls of a driver in C or Rust, for each a function of one of the `driver_` crates with the same promise. Each but `katan_version` and
 // `katan_cycles` returns 0 or the number of the first fault found, and a refused call leaves every lent output as it was, but for a preview's room.
 ghost use mathlib.Core.Path.{_≡_};
 ghost use Rattle.katan.specs.Lent.{statusOf, lentAfter};
@@ -7,7 +7,9 @@ ghost use Rattle.lanes.specs.declared.Direction.the-variants.{Encrypt, Decrypt}
 ghost use Rattle.lanes_keystream.specs.Stream.{streamAnswer, streamOf};
 ghost use Rattle.katan_rate.specs.Rate.{cyclesOf};
 ghost use Rattle.driver_ciphers.specs.Calls.{interfaceVersion, word, encryptCall, decryptCall, rateCall, clockWords, originCall};
-ghost use Rattle.driver_bench.specs.Calls.{openCall, openedBench, openedLink, responseWords, readCall, arriveCall, arrivedBench, arrivedLink, arrivedAnswer, previewCall, previewedAnswer, previewedRoom, replayCall, replayedBench, replayedAnswers};
+ghost use Rattle.driver_reads.specs.Calls.{responseWords, readCall, shownWord, screenCall, screenedNumbers};
+ghost use Rattle.driver_bench.specs.Calls.{openCall, openedBench, openedLink, arriveCall, arrivedBench, arrivedLink, arrivedAnswer, previewCall, previewedAnswer, previewedRoom};
+ghost use Rattle.driver_replay.specs.Calls.{replayCall, replayedBench, replayedAnswers};
 
 // The version of these calls.
 #[no_mangle]
@@ -159,7 +161,18 @@ pub extern "C" fn katan_read(bench: &[u8], lane: u64, answer: &mut [u64]) -> u8
     ensures { λ r. ⌜ r ≡ statusOf (readCall (now (bench .entry)) lane (now (answer .entry))) ⌝ }
     ensures { λ r. ⌜ now (answer .exit) ≡ lentAfter responseWords (readCall (now (bench .entry)) lane (now (answer .entry))) (now (answer .entry)) ⌝ }
 {
-    driver_bench::read(bench, lane, answer)
+    driver_reads::read(bench, lane, answer)
+}
+
+// Reads every lane of a mask: the 64 words of `out` are the registers of those that are loaded, and 0 for all others, and the one word of `shown` is the
+// mask of those.
+#[no_mangle]
+pub extern "C" fn katan_screen(bench: &[u8], mask: u64, out: &mut [u64], shown: &mut [u64]) -> u8
+    ensures { λ r. ⌜ (r ≡ statusOf (screenCall (now (bench .entry)) mask (now (out .entry)) (now (shown .entry))))
+        × (now (out .exit) ≡ screenedNumbers (now (bench .entry)) mask (now (out .entry)) (now (shown .entry)))
+        × (now (shown .exit) ≡ lentAfter shownWord (screenCall (now (bench .entry)) mask (now (out .entry)) (now (shown .entry))) (now (shown .entry))) ⌝ }
+{
+    driver_reads::screen(bench, mask, out, shown)
 }
 
 // Runs a whole list of calls on a fresh bench and link.
@@ -174,5 +187,5 @@ pub extern "C" fn katan_replay(
         × (now (bench .exit) ≡ replayedBench variant (now (calls .entry)) (now (bench .entry)) (now (answers .entry)))
         × (now (answers .exit) ≡ replayedAnswers variant (now (calls .entry)) (now (bench .entry)) (now (answers .entry))) ⌝ }
 {
-    driver_bench::replay(variant, calls, bench, answers)
+    driver_replay::replay(variant, calls, bench, answers)
 }

@@ -1,4 +1,4 @@
--- What an arrival and a read leave that pass the driver's checks.
+-- What an arrival leaves that passes the driver's checks.
 -- Assumes nothing.
 use mathlib.Core.Path.{_≡_, ap₂, subst, _∙_}
 use mathlib.Core.List.{List}
@@ -7,10 +7,10 @@ use Rattle.katan.specs.Lent.{statusOf, lentAfter}
 use Rattle.bench.specs.declared.Bench.{Bench}
 use Rattle.bench.specs.declared.Link.{Link}
 use Rattle.bench.specs.declared.ArrivalResult.{ArrivalResult}
-use Rattle.bench.specs.Calls.{Answer}
 use Rattle.bench.specs.Bench.{Effect, arriveOf, effectOf}
 use Rattle.driver_layout.specs.Layout.{benchIn, linkIn, benchBytes, linkBytes}
-use Rattle.driver_bench.specs.Calls.{responseWords, ifCounted, arriveEffect}
+use Rattle.driver_reads.specs.Calls.{responseWords}
+use Rattle.driver_bench.specs.Calls.{ifCounted, arriveEffect}
 
 -- status and lent memory of an arrival with this effect
 abbrev Leaves : (bench link answer : List ℕ) → Effect → ℕ → (newbench newlink newanswer : List ℕ) → Type 0
@@ -28,8 +28,3 @@ pub same-effect : (bench link sent answer : List ℕ) {b : Bench} {l : Link} {r 
 same-effect bench link sent answer {r = r} {newbench} {newlink} {newanswer} isb isl after e g =
     subst (λ (x : Effect). Leaves bench link answer x r newbench newlink newanswer)
     (e ∙ ap₂ (λ (x : Bench) (y : Link). arriveOf x y sent) isb isl) g
-
--- what is left for the answer to a read is left for what the answer says
-pub same-reading : (old : List ℕ) {o p : Answer} {r : ℕ} {new : List ℕ} → o ≡ p
-    → (r ≡ statusOf o) × (new ≡ lentAfter responseWords o old) → (r ≡ statusOf p) × (new ≡ lentAfter responseWords p old)
-same-reading old {r = r} {new} e g = subst (λ (x : Answer). (r ≡ statusOf x) × (new ≡ lentAfter responseWords x old)) e g

@@ -1,26 +1,17 @@
--- Check 1 of the bench that lent memory says.
+-- Check 1 of the bench that a record is sent to.
 -- Assumes nothing.
 use mathlib.Core.Path.{_≡_, refl, sym, ap, _∙_}
 use mathlib.Core.Bool.{Bool, true, false}
 use mathlib.Core.List.{List}
 use Prim.Native.Nat.{ℕ}
-use lib.ListN.{length}
 use Rattle.katan.specs.Bit.{pick}
 use Rattle.katan.specs.Checks.{Outcome, refused}
 use Rattle.bench.specs.declared.Bench.{Bench}
 use Rattle.bench.specs.declared.Link.{Link}
 use Rattle.bench.specs.Calls.{Answer}
 use Rattle.bench.specs.Checks.{Turn}
-use Rattle.bench.specs.Bench.{benchView, effectAs, arriveOf}
+use Rattle.bench.specs.Bench.{heldCheck, benchView, effectAs, arriveOf}
 use Rattle.bench.proofs.Turns.{decided-1}
-use Rattle.driver_layout.specs.Layout.{benchLength, benchIn, readAs}
-use Rattle.driver_layout.proofs.Fitted.{bench-read}
-use Rattle.driver_bench.specs.Calls.{heldCheck}
-
--- what the code finds of the bench that it has read is what check 1 finds
-pub held : (s : List ℕ) (b : Bench) {t x : Bool} → length s ≡ benchLength → b ≡ benchIn (readAs benchLength s)
-    → t ≡ heldCheck b .fault → t ≡ x → heldCheck (benchIn s) .fault ≡ x
-held s b n e f g = ap (λ (y : Bench). heldCheck y .fault) (sym (bench-read s b n e)) ∙ sym f ∙ g
 
 -- check 1 comes first in an arrival too
 pub refused-1 : (b : Bench) (l : Link) (sent : List ℕ) → heldCheck b .fault ≡ true → arriveOf b l sent .answer ≡ refused 1

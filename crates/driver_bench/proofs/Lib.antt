@@ -1,4 +1,3 @@
 pub mod Held
 mod Arrivals
 mod Previews
-mod Replays

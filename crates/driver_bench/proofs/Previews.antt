@@ -8,14 +8,15 @@ use lib.Dec.{eqb}
 use lib.ListN.{length}
 use borrow.Author.Tests.{eqb-true}
 use Rattle.katan.specs.Bit.{pick}
-use Rattle.katan.specs.Lent.{statusOf, lentAfter}
+use Rattle.katan.specs.Lent.{statusOf, lentAfter, fitted}
 use Rattle.bench.specs.declared.Bench.{Bench}
 use Rattle.bench.specs.declared.Link.{Link}
 use Rattle.bench.specs.Preview.{PreviewEffect, previewOf}
 use Rattle.bench_stepping.specs.declared.PreviewResult.{PreviewResult}
 use Rattle.bench_stepping.specs.Answers.{previewedBy}
-use Rattle.driver_layout.specs.Layout.{benchLength, benchIn, linkIn, benchBytes, fitted}
-use Rattle.driver_bench.specs.Calls.{responseWords, ifCounted}
+use Rattle.driver_layout.specs.Layout.{benchLength, benchIn, linkIn, benchBytes}
+use Rattle.driver_reads.specs.Calls.{responseWords}
+use Rattle.driver_bench.specs.Calls.{ifCounted}
 
 -- the room after the bench was copied into it
 pub copied : (bench room : List ℕ) {new : List ℕ} → length bench ≡ benchLength → new ≡ fitted (length bench) bench room → new ≡ fitted benchLength bench room

@@ -1,22 +1,18 @@
--- What each call of a driver on a bench answers, and what it leaves in the memory lent to it. The checks go by rising number, those of a record as an
--- arrival makes them; a bench of another length is refused by 2 before anything is looked for in it.
+-- What the calls of a driver that open a bench, and that send it a record or try one, answer, and what they leave in the memory lent to them. The
+-- checks go by rising number, those of a record as an arrival makes them; a bench of another length is refused by 2 before anything is looked for in it.
 -- Assumes nothing.
 use Prim.Native.Nat.{ℕ}
-use mathlib.Core.List.{List, [], _∷_, _++_, map}
+use mathlib.Core.List.{List, [], _∷_, _++_}
 use mathlib.Core.Bool.{_&&_}
 use lib.Dec.{eqb}
 use lib.ListN.{length}
 use Rattle.katan.specs.Bit.{pick}
 use Rattle.katan.specs.Checks.{Outcome, value, refused, Check, checked, sizeCheck, variantCheck}
 use Rattle.katan.specs.Lent.{lentAfter}
-use Rattle.bench.specs.declared.Bench.{Bench}
-use Rattle.bench.specs.Calls.{Call, Response, done, again, at, Answer}
-use Rattle.bench.specs.Checks.{benchCheck}
-use Rattle.bench.specs.Bench.{freshBench, freshLink, slotView, Effect, arriveOf, readOf}
-use Rattle.bench.specs.Claim.{benchAfter, modelAnswers}
-use Rattle.bench_replay.specs.Encoding.{answersBytes}
-use Rattle.bench_replay.specs.Replay.{accepted}
+use Rattle.bench.specs.Calls.{done, again, at, Answer}
+use Rattle.bench.specs.Bench.{freshBench, freshLink, heldCheck, Effect, arriveOf}
 use Rattle.driver_layout.specs.Layout.{benchLength, linkLength, benchIn, linkIn, benchBytes, linkBytes}
+use Rattle.driver_reads.specs.Calls.{responseWords}
 
 -- ---- opening a bench
 
@@ -30,20 +26,11 @@ module _ (v : ℕ) (bench link : List ℕ) where
   abbrev pub openedLink : List ℕ
   openedLink = lentAfter (λ x. linkBytes freshLink) openCall link
 
--- ---- an arrival and a read
+-- ---- an arrival
 
--- the words lent for the answer to an arrival or a preview, and to a read
+-- the words lent for the answer to an arrival or a preview
 abbrev pub arrivalWords : ℕ
 arrivalWords = 3
-
-abbrev pub readingWords : ℕ
-readingWords = 2
-
--- 'done' is 0, number, total; 'again' is 1, number, total; a read gives position, registers
-abbrev pub responseWords : Response → List ℕ
-responseWords (done n t) = 0 ∷ n ∷ t ∷ []
-responseWords (again n t) = 1 ∷ n ∷ t ∷ []
-responseWords (at r) = r .position .0 ∷ r .registers ∷ []
 
 -- only an arrival that is 'done' has counted, and alters bench and link
 abbrev pub ifCounted : Answer → List ℕ → List ℕ → List ℕ
@@ -51,16 +38,6 @@ ifCounted (value (done n t)) new old = new
 ifCounted (value (again n t)) new old = old
 ifCounted (value (at r)) new old = old
 ifCounted (refused k) new old = old
-
--- 1 of the bench that is lent
-abbrev pub heldCheck : Bench → Check
-heldCheck b = benchCheck (b .variant) (map slotView (b .slots))
-
-unfoldable pub readCall : (bench : List ℕ) → ℕ → (answer : List ℕ) → Answer
-readCall bench i answer =
-    checked
-    (sizeCheck benchLength bench ∷ heldCheck (benchIn bench) ∷ sizeCheck readingWords answer ∷ [])
-    (readOf (benchIn bench) i)
 
 module _ (bench link sent answer : List ℕ) where
   abbrev pub arriveEffect : Effect
@@ -95,15 +72,3 @@ module _ (bench link sent answer room : List ℕ) where
   -- bench to show or no room for it, and the room stays.
   abbrev pub previewedRoom : List ℕ
   previewedRoom = pick (eqb (length bench) benchLength && eqb (length room) benchLength) (arrivedBench bench link sent answer) room
-
--- ---- a whole list of calls, on a fresh bench and link: the answers are the reference model's
-
-module _ (v : ℕ) (calls bench answers : List ℕ) where
-  unfoldable pub replayCall : Outcome (List Call)
-  replayCall = checked (variantCheck v ∷ sizeCheck benchLength bench ∷ []) (accepted v calls answers)
-
-  abbrev pub replayedBench : List ℕ
-  replayedBench = lentAfter (λ cs. benchBytes (benchAfter v cs .bench) bench) replayCall bench
-
-  abbrev pub replayedAnswers : List ℕ
-  replayedAnswers = lentAfter (λ cs. answersBytes (modelAnswers v cs)) replayCall answers

@@ -1,4 +1,4 @@
--- Lent memory that has the length asked for, and memory of another.
+-- What is read of memory that has the length asked for, and of memory of another.
 -- Assumes nothing.
 use mathlib.Core.Path.{_≡_, ap, _∙_}
 use mathlib.Core.List.{List}
@@ -6,14 +6,7 @@ use Prim.Native.Nat.{ℕ}
 use lib.ListN.{length, replicate}
 use borrow.Author.Tests.{eq-eqb, ne-eqb}
 use Rattle.bench.specs.declared.Bench.{Bench}
-use Rattle.driver_layout.specs.Layout.{benchLength, benchIn, fitted, readAs}
-
-module _ (n : ℕ) (new old : List ℕ) where
-  pub it-fits : length old ≡ n → fitted n new old ≡ new
-  it-fits e = rw (eq-eqb (length old) n e)
-
-  pub no-fit : (length old ≡ n → ⊥) → fitted n new old ≡ old
-  no-fit e = rw (ne-eqb (length old) n e)
+use Rattle.driver_layout.specs.Layout.{benchLength, benchIn, readAs}
 
 module _ (n : ℕ) (s : List ℕ) where
   pub reads-whole : length s ≡ n → readAs n s ≡ s

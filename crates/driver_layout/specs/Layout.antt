@@ -115,7 +115,3 @@ benchBytes b old = b .variant ∷ slotBytes (b .slots) (drop lanesStart old)
 
 unfoldable pub linkBytes : Link → List ℕ
 linkBytes l = bytesOf numberBytes (l .last) ++ bytesOf numberBytes (l .total) ++ l .bytes
-
--- what they leave of lent memory: it is written to only where it has their n bytes
-abbrev pub fitted : ℕ → (new old : List ℕ) → List ℕ
-fitted n new old = pick (eqb (length old) n) new old

@@ -16,9 +16,10 @@ use Rattle.katan.proofs.Variants.{variant-sound}
 use Rattle.bench.specs.Calls.{Answer}
 use Rattle.bench_record.specs.Checks.{laneCheck}
 use Rattle.bench.specs.Checks.{emptyLane, emptyCheck, readChecks, Turn, counts, repeats, decision, laneAnswer, readOutcome}
-use Rattle.bench.specs.Bench.{emptySlot, freshBench, freshLink, slotView, benchView, countedEffect, effectAs, arriveOf, readOf}
+use Rattle.bench.specs.Bench.{emptySlot, freshBench, freshLink, slotView, benchView, heldCheck, countedEffect, effectAs, arriveOf, readOf}
 use Rattle.driver_layout.specs.Layout.{benchLength, linkLength, benchIn, linkIn, benchBytes, linkBytes}
-use Rattle.driver_bench.specs.Calls.{openCall, openedBench, openedLink, arrivalWords, readingWords, heldCheck, ifCounted, readCall, arriveEffect, arriveChecks, arriveCall, previewCall}
+use Rattle.driver_reads.specs.Calls.{readingWords, readCall}
+use Rattle.driver_bench.specs.Calls.{openCall, openedBench, openedLink, arrivalWords, ifCounted, arriveEffect, arriveChecks, arriveCall, previewCall}
 use Rattle.driver_layout.specs.ReadBack.{SlotsFit, BenchFits, LinkFits}
 use Rattle.driver_layout.proofs.ReadBack.{bench-read-back, link-read-back}
 use Rattle.driver_layout.proofs.Fits.{bench-in-fits, link-in-fits}

@@ -16,7 +16,8 @@ use Rattle.bench.proofs.Preview.{every-list-with-previews}
 use Rattle.driver_layout.specs.Layout.{benchLength, linkLength, benchIn, linkIn}
 use Rattle.driver_layout.specs.ReadBack.{BenchFits, LinkFits}
 use Rattle.driver_layout.proofs.ReadBack.{length-bench, length-link}
-use Rattle.driver_bench.specs.Calls.{arrivalWords, readingWords, ifCounted, arriveCall}
+use Rattle.driver_reads.specs.Calls.{readingWords}
+use Rattle.driver_bench.specs.Calls.{arrivalWords, ifCounted, arriveCall}
 use Rattle.driver_memory.specs.Follows.{Opens}
 use Rattle.driver_memory.specs.Memory.{Memory, openedMemory, DriverCall, arrive, read, preview, lentFor, lanesIn, Returned, driverTransition, WellLent, withoutPreviews, withoutShown, eventOf, returnedAs, EveryListInMemory}
 use Rattle.driver_memory.proofs.Fits.{effect-fits}

@@ -10,7 +10,8 @@ use Rattle.katan.specs.Bit.{AreBytes}
 use Rattle.katan.specs.Lent.{statusOf}
 use Rattle.bench.specs.Bench.{freshBench, freshLink, readOf}
 use Rattle.driver_layout.specs.Layout.{benchLength, linkLength, benchIn, linkIn}
-use Rattle.driver_bench.specs.Calls.{openCall, openedBench, openedLink, arrivalWords, readingWords, readCall, arriveEffect, arriveCall, arrivedBench, arrivedLink, previewCall, previewedRoom}
+use Rattle.driver_reads.specs.Calls.{readingWords, readCall}
+use Rattle.driver_bench.specs.Calls.{openCall, openedBench, openedLink, arrivalWords, arriveEffect, arriveCall, arrivedBench, arrivedLink, previewCall, previewedRoom}
 
 pub record Opens (v : ℕ) (bench link : List ℕ) : Type 0 where
   pub accepted : statusOf (openCall v bench link) ≡ 0

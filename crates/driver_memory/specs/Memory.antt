@@ -12,11 +12,12 @@ use Rattle.katan.specs.Sizes.{laneCount}
 use Rattle.bench.specs.Calls.{arrival, reading, stateAfter, answersTo}
 use Rattle.bench.specs.Checks.{LaneView}
 use Rattle.bench.specs.Model.{machineView}
-use Rattle.bench.specs.Bench.{emptySlot, slotView}
+use Rattle.bench.specs.Bench.{emptySlot, slotView, lanesOf}
 use Rattle.bench.specs.Claim.{machineAfter}
 use Rattle.bench.specs.Preview.{Event, call, preview as previewEvent, EventAnswer, answered, previewed, callsOf, modelEventAnswers}
 use Rattle.driver_layout.specs.Layout.{benchLength, linkLength, benchIn}
-use Rattle.driver_bench.specs.Calls.{openedBench, openedLink, arrivalWords, readingWords, responseWords, readCall, arriveCall, arrivedBench, arrivedLink, arrivedAnswer, previewCall, previewedAnswer, previewedRoom}
+use Rattle.driver_reads.specs.Calls.{readingWords, responseWords, readCall}
+use Rattle.driver_bench.specs.Calls.{openedBench, openedLink, arrivalWords, arriveCall, arrivedBench, arrivedLink, arrivedAnswer, previewCall, previewedAnswer, previewedRoom}
 
 -- ---- a driver's memory, and its calls
 
@@ -42,7 +43,7 @@ lentFor (preview sent answer room) = answer
 
 -- the lanes that the memory of a bench says
 abbrev pub lanesIn : List ℕ → List LaneView
-lanesIn bench = map slotView (benchIn bench .slots)
+lanesIn bench = lanesOf (benchIn bench)
 
 -- the status that a call returns, and what the memory lent for the answer holds afterwards; of a preview also the lanes that its room then says
 pub data Returned : Type 0 where

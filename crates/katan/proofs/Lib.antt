@@ -3,6 +3,7 @@ pub mod Tables
 pub mod Fill
 pub mod Bytes
 pub mod Words
+pub mod Copies
 pub mod Numbers
 pub mod Booleans
 pub mod Checked

@@ -1,10 +1,11 @@
-// Numbers in bytes, low byte first; bits of words; and whether a number fits n bits.
+// Numbers in bytes, low byte first; words copied; bits of words; and whether a number fits n bits.
 ghost use mathlib.Core.Path.{_≡_};
 ghost use Prim.Native.Nat.{_<_, _^_};
 ghost use lib.Dec.{leb};
 ghost use lib.ListN.{getD, length, take};
 ghost use Rattle.katan.specs.Bit.{bit, numberIn, bytesOf};
 ghost use Rattle.katan.specs.Key.{keyOf};
+ghost use Rattle.katan.specs.Lent.{fitted};
 ghost use Rattle.katan.specs.Sizes.{keyBytes};
 use katan::Key;
 
@@ -54,6 +55,27 @@ pub fn put_number(x: u64, out: &mut [u8])
         out[i] = (rest % 256) as u8;
         rest = rest / 256;
         i += 1;
+    }
+}
+
+fn copy_words(words: &[u64], out: &mut [u64])
+    requires { ⌜ length (now out) ≡ length (now words) ⌝ }
+    ensures { λ r. ⌜ now (out .exit) ≡ now (words .entry) ⌝ }
+{
+    let end = words.len();
+    let mut at: usize = 0;
+    while at < end {
+        out[at] = words[at];
+        at += 1;
+    }
+}
+
+// A copy of any words, into memory of as many.
+pub fn put_words(words: &[u64], out: &mut [u64])
+    ensures { λ r. ⌜ now (out .exit) ≡ fitted (length (now (words .entry))) (now (words .entry)) (now (out .entry)) ⌝ }
+{
+    if out.len() == words.len() {
+        copy_words(words, out);
     }
 }
 

@@ -115,9 +115,7 @@ fn write(rows: [u64; WORD_BITS], out: &mut [u64])
     requires { ⌜ length (now out) ≤ wordBits ⌝ }
     ensures { λ r. ⌜ now (out .exit) ≡ take (length (now (out .entry))) rows ⌝ }
 {
-    for i in 0..out.len() {
-        out[i] = rows[i];
-    }
+    katan_numbers::put_words(&rows[0..out.len()], out);
 }
 
 // Encrypts or decrypts 1 to 64 blocks of one variant, block i with the key in bytes 10i to 10i + 9.

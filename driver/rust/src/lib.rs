@@ -20,7 +20,7 @@ pub mod raw;
 
 /// The version of the calls that this crate was written for: it rises with every new call, and with
 /// every change of a call's parameters, its numbers or a layout.
-pub const VERSION: u32 = 6;
+pub const VERSION: u32 = 7;
 
 /// The version of the calls that the archive was built with.
 ///
@@ -49,7 +49,7 @@ pub enum Refusal {
     BadPosition = 6,
     /// A block, or the start of a keystream, is 2^n or more.
     BadBlock = 7,
-    /// The mask of a move or clear is 0.
+    /// The mask of a move or clear, or of a screen, is 0.
     EmptyMask = 8,
     /// The number is neither last + 1 nor a nonzero last.
     OutOfTurn = 9,
@@ -337,6 +337,34 @@ pub struct Preview {
     pub lanes: [Lane; raw::LANES],
 }
 
+/// The registers of all lanes that a mask names, as [`Bench::screen`] reads them: those that are loaded
+/// are shown.
+#[derive(Clone, Debug, PartialEq, Eq)]
+pub struct Screen {
+    shown: u64,
+    registers: [u64; raw::LANES],
+}
+
+impl Screen {
+    /// The mask of the lanes shown: bit i is set where lane i is named and loaded.
+    pub fn shown(&self) -> u64 {
+        self.shown
+    }
+
+    /// The registers of a lane of any number, if it is shown.
+    pub fn registers(&self, lane: u64) -> Option<u64> {
+        let is_shown = lane < raw::LANES as u64 && self.shown >> lane & 1 == 1;
+        is_shown.then(|| self.registers[lane as usize])
+    }
+
+    /// Each lane shown, with its registers, by rising lane number.
+    pub fn lanes(&self) -> impl Iterator<Item = (u64, u64)> + '_ {
+        (0..)
+            .zip(self.registers)
+            .filter(move |(lane, _)| self.shown >> lane & 1 == 1)
+    }
+}
+
 /// A bench of 64 lanes with its link.
 ///
 /// ```
@@ -465,6 +493,41 @@ impl Bench {
             registers,
         };
         checked(status, reading)
+    }
+
+    /// All lanes that a mask names, in one call: bit i names lane i. The registers, and the named lanes that
+    /// are left out as empty, are those of single reads; positions are not given.
+    ///
+    /// ```
+    /// use katan_bench::{record, Bench, Refusal};
+    ///
+    /// let mut bench = Bench::open(1)?;
+    /// bench.arrive(&record::load(1, 0, 0, &[0xff; 10], 0))?;
+    /// bench.arrive(&record::load(2, 2, 0, &[0; 10], 0))?;
+    /// bench.arrive(&record::load(3, 63, 0, &[0xff; 10], 0))?;
+    /// bench.arrive(&record::forward(4, 0b101, 5))?;
+    ///
+    /// // Lanes 0 to 2 on the screen: lane 1 is empty, and lane 63 is not named.
+    /// let screen = bench.screen(0b111)?;
+    /// assert_eq!(screen.shown(), 0b101);
+    /// for (lane, registers) in screen.lanes() {
+    ///     assert_eq!(bench.read(lane)?.registers, registers);
+    /// }
+    /// assert_eq!(screen.registers(0), Some(0x00f8001e));
+    /// // Under a key of zeros, a block of zeros stays: the lane is shown all the same.
+    /// assert_eq!(screen.registers(2), Some(0));
+    /// assert_eq!([1, 63, 64].map(|lane| screen.registers(lane)), [None; 3]);
+    ///
+    /// // A screen may be empty, but its mask names some lane.
+    /// assert_eq!(bench.screen(0b010)?.lanes().count(), 0);
+    /// assert_eq!(bench.screen(0), Err(Refusal::EmptyMask));
+    /// # Ok::<(), Refusal>(())
+    /// ```
+    pub fn screen(&self, mask: u64) -> Result<Screen, Refusal> {
+        let (mut registers, mut shown) = ([0; raw::LANES], [0]);
+        let status = raw::screen(&self.bench, mask, &mut registers, &mut shown);
+        let [shown] = shown;
+        checked(status, Screen { shown, registers })
     }
 }
 

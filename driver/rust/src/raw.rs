@@ -111,6 +111,15 @@ mod c {
             answer: *mut u64,
             answer_length: usize,
         ) -> u8;
+        pub fn katan_screen(
+            bench: *const u8,
+            bench_length: usize,
+            mask: u64,
+            out: *mut u64,
+            out_length: usize,
+            shown: *mut u64,
+            shown_length: usize,
+        ) -> u8;
         pub fn katan_replay(
             variant: u8,
             calls: *const u8,
@@ -254,7 +263,7 @@ pub fn arrive(bench: &mut [u8], link: &mut [u8], sent: &[u8], answer: &mut [u32]
 /// What [`arrive`] would answer, and in the room what it would leave in the bench's memory: the bench's
 /// own bytes where the record is refused or a repeat. A room of another length is refused with 2, after
 /// 1; only then, or with a bench of another length, is the room left as it was. No link goes with the
-/// room: it is for looking at, also by [`read`].
+/// room: it is for looking at, also by [`read`] and [`screen`].
 pub fn preview(bench: &[u8], link: &[u8], sent: &[u8], answer: &mut [u32], room: &mut [u8]) -> u8 {
     unsafe {
         c::katan_preview(
@@ -281,6 +290,22 @@ pub fn read(bench: &[u8], lane: u64, answer: &mut [u64]) -> u8 {
             lane,
             answer.as_mut_ptr(),
             answer.len(),
+        )
+    }
+}
+
+/// The output is a number for each of the [`LANES`] lanes: its registers where the mask names it and it
+/// is loaded, 0 otherwise. `shown`, of 1 element, is the mask of the named lanes that are loaded.
+pub fn screen(bench: &[u8], mask: u64, out: &mut [u64], shown: &mut [u64]) -> u8 {
+    unsafe {
+        c::katan_screen(
+            bench.as_ptr(),
+            bench.len(),
+            mask,
+            out.as_mut_ptr(),
+            out.len(),
+            shown.as_mut_ptr(),
+            shown.len(),
         )
     }
 }

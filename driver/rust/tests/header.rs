@@ -72,6 +72,13 @@ fn statuses_and_lengths() {
     let words = names["KATAN_ORIGIN_WORDS"];
     let status = |length| raw::origin(1, &key, 0, last, &mut vec![7; length]);
     assert_eq!([words - 1, words, words + 1].map(status), [2, 0, 2]);
+    let bench = Bench::open(1).unwrap();
+    let bench = bench.bytes().0;
+    let lanes = names["KATAN_LANES"];
+    let status = |length| raw::screen(bench, 1, &mut vec![7; length], &mut [7]);
+    assert_eq!([lanes - 1, lanes, lanes + 1].map(status), [2, 0, 2]);
+    let status = |length| raw::screen(bench, 1, &mut vec![7; lanes], &mut vec![7; length]);
+    assert_eq!([0, 1, 2].map(status), [2, 0, 2]);
     let highest = names["KATAN_HIGHEST_RATE"] as u64;
     assert!(katan_bench::bit_rate(1, highest).is_ok());
     assert_eq!(katan_bench::bit_rate(1, highest + 1), Err(Refusal::BadRate));

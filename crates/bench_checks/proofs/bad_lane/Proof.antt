@@ -1,16 +1,12 @@
-use mathlib.Core.Path.{_≡_, refl, ap, _∙_}
-use mathlib.Core.Bool.{Bool, true, false, _||_}
+use mathlib.Core.Path.{sym, ap, _∙_}
 use Rattle.katan.specs.declared.Row.{Row}
+use Rattle.katan.proofs.Booleans.{or-false}
 use Rattle.katan.proofs.Variants.{row-found, row-refused}
 use Rattle.bench.specs.Checks.{laneFault, anyLaneFault}
 use Rattle.bench.specs.Bench.{laneView}
 use borrow.Author.Needs.{needs}
 use Rattle.bench_checks.proofs.bad_lane.Statement.{statement}
 use Rattle.bench_checks.proofs.bad_lane.Tie as tie
-
-or-none : (b : Bool) → b ≡ (b || false)
-or-none true = refl
-or-none false = refl
 
 row-of-requires : tie.Need-row-of-requires
 row-of-requires c κs = search needs
@@ -30,7 +26,7 @@ returns c =
     let r = c .before .before .before .before in
     let a = r .before .args in
     let is = row-found (a .variant) (r .row-of .result) _ (r .row-of .ensures) (c .before .before .row .given .1) in
-    rw (is .no-fault) (c .lane-fault .ensures (a .variant) (ap (λ (w : Row). w .n) (is .is-row)) ∙ or-none (laneFault (a .variant) (laneView (a .lane))))
+    rw (is .no-fault) (c .lane-fault .ensures (a .variant) (ap (λ (w : Row). w .n) (is .is-row)) ∙ sym (or-false (laneFault (a .variant) (laneView (a .lane)))))
 
 returns-2 : tie.Need-returns-2
 returns-2 c =

@@ -3,8 +3,8 @@
 use mathlib.Core.Path.{refl}
 use borrow.Author.Tests.{eq-eqb, ne-eqb}
 use Rattle.driver_layout.proofs.Fitted.{bench-read}
+use Rattle.driver_reads.proofs.Held.{held}
 use Rattle.driver_bench.specs.Calls.{arriveCall}
-use Rattle.driver_bench.proofs.Held.{held}
 use Rattle.driver_bench.proofs.Arrivals.{same-effect}
 use borrow.Author.Needs.{needs}
 use Rattle.driver_bench.proofs.arrive.Statement.{statement}

@@ -5,7 +5,7 @@ use borrow.Author.Tests.{eq-eqb, ne-eqb}
 use Rattle.bench.specs.declared.Bench.{Bench}
 use Rattle.bench.specs.declared.Link.{Link}
 use Rattle.driver_layout.specs.Layout.{benchBytes, linkBytes}
-use Rattle.driver_layout.proofs.Fitted.{it-fits}
+use Rattle.katan.proofs.Copies.{it-fits}
 use borrow.Author.Needs.{needs}
 use Rattle.driver_bench.proofs.open.Statement.{statement}
 use Rattle.driver_bench.proofs.open.Tie as tie

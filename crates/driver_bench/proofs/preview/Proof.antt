@@ -7,10 +7,13 @@ use lib.ListN.{length}
 use borrow.Author.Tests.{eq-eqb, ne-eqb}
 use Rattle.katan.specs.Bit.{pick}
 use Rattle.bench.specs.declared.Bench.{Bench}
+use Rattle.bench.specs.Bench.{heldCheck}
 use Rattle.bench.specs.Preview.{previewOf}
-use Rattle.driver_layout.specs.Layout.{benchLength, benchIn, linkIn, fitted}
-use Rattle.driver_layout.proofs.Fitted.{it-fits, no-fit, bench-read}
-use Rattle.driver_bench.specs.Calls.{heldCheck, arriveCall, previewCall}
+use Rattle.katan.specs.Lent.{fitted}
+use Rattle.driver_layout.specs.Layout.{benchLength, benchIn, linkIn}
+use Rattle.katan.proofs.Copies.{it-fits, no-fit}
+use Rattle.driver_layout.proofs.Fitted.{bench-read}
+use Rattle.driver_bench.specs.Calls.{arriveCall, previewCall}
 use Rattle.driver_bench.proofs.Held.{found-by-itself, either}
 use Rattle.driver_bench.proofs.Previews.{copied, wrong-size, right-size, same-preview}
 use borrow.Author.Needs.{needs}

@@ -1,12 +1,10 @@
 -- `driver_layout::copy` meets its contract.
 -- Assumes nothing.
 use mathlib.Core.Path.{_≡_, refl, sym, _∙_}
-use mathlib.Core.List.{List}
-use Prim.Native.Nat.{ℕ, _+_, _-_, _≤_, _<_}
+use Prim.Native.Nat.{_-_, _≤_}
 use native.Mathlib.Omega.{arith}
-use native.Mathlib.Numerals.{add-one}
-use lib.ListN.{length, take, getD, set, length-set}
-use lib.Seq.{take-suc, take-suc-set, take-all}
+use lib.ListN.{length, take, length-set}
+use Rattle.katan.proofs.Copies.{next-copied, all-copied}
 use Rattle.driver_layout.proofs.copy.Statement.{statement}
 use Rattle.driver_layout.proofs.copy.Tie as tie
 
@@ -31,15 +29,11 @@ add-i c = omega arith
 loop-less : tie.Need-loop-less Inv-loop μ-loop
 loop-less c = omega arith
 
--- one byte more
-next-copied : (bytes out : List ℕ) (i : ℕ) → i < length bytes → i < length out → take i out ≡ take i bytes → take (i + 1) (set out i (getD bytes i 0)) ≡ take (i + 1) bytes
-next-copied bytes out i hs ht e = simp (add-one, take-suc-set out i (getD bytes i 0) ht, take-suc bytes i 0 hs, e)
-
 loop-again : tie.Need-loop-again Inv-loop μ-loop
 loop-again c =
     let l = c .before .before .loop in
     let bytes = c .before .before .before .args .bytes .now in
-    (omega arith, simp length-set (l .inv .1), next-copied bytes (l .out) (l .i) (omega arith) (omega arith) (l .inv .2))
+    (omega arith, simp length-set (l .inv .1), next-copied bytes (l .out) (l .i) (l .inv .2) (omega arith) (omega arith))
 
 same-length : tie.Need-same-length Inv-loop μ-loop
 same-length c = c .before .loop .inv .1 ∙ sym (c .before .before .pre)
@@ -48,9 +42,7 @@ returns : tie.Need-returns Inv-loop μ-loop
 returns c =
     let l = c .before .loop in
     let bytes = c .before .before .args .bytes .now in
-    let lt : length (l .out) ≤ l .i = omega arith in
-    let ls : length bytes ≤ l .i = omega arith in
-    simp (take-all (l .i) (l .out) lt, take-all (l .i) bytes ls) at (l .inv .2)
+    all-copied bytes (l .out) (l .i) (l .inv .2) (omega arith) (omega arith)
 
 pub copy-spec : {M : Type 1} → statement M
 copy-spec =

@@ -1,13 +1,13 @@
--- `driver_bench::replay` meets its contract.
+-- `driver_replay::replay` meets its contract.
 -- Assumes nothing.
 use mathlib.Core.Path.{refl, sym, _∙_}
 use borrow.Author.Tests.{ne-eqb}
 use Rattle.bench_replay.specs.Replay.{replayOutcome}
-use Rattle.driver_bench.specs.Calls.{replayCall}
-use Rattle.driver_bench.proofs.Replays.{replay-passed}
+use Rattle.driver_replay.specs.Calls.{replayCall}
+use Rattle.driver_replay.proofs.Replays.{replay-passed}
 use borrow.Author.Needs.{needs}
-use Rattle.driver_bench.proofs.replay.Statement.{statement}
-use Rattle.driver_bench.proofs.replay.Tie as tie
+use Rattle.driver_replay.proofs.replay.Statement.{statement}
+use Rattle.driver_replay.proofs.replay.Tie as tie
 
 bad-variant-requires : tie.Need-bad-variant-requires
 bad-variant-requires c κs = search needs

@@ -1,16 +1,15 @@
--- `driver_bench::read` meets its contract.
+-- `driver_reads::read` meets its contract.
 -- Assumes nothing.
 use mathlib.Core.Path.{refl, ap, _∙_}
 use borrow.Author.Tests.{eq-eqb, ne-eqb}
 use Rattle.bench.specs.declared.Bench.{Bench}
 use Rattle.bench.specs.Bench.{readOf}
 use Rattle.driver_layout.proofs.Fitted.{bench-read}
-use Rattle.driver_bench.specs.Calls.{readCall}
-use Rattle.driver_bench.proofs.Held.{held}
-use Rattle.driver_bench.proofs.Arrivals.{same-reading}
+use Rattle.driver_reads.specs.Calls.{responseWords, readCall}
+use Rattle.driver_reads.proofs.Held.{held, same-answer}
 use borrow.Author.Needs.{needs}
-use Rattle.driver_bench.proofs.read.Statement.{statement}
-use Rattle.driver_bench.proofs.read.Tie as tie
+use Rattle.driver_reads.proofs.read.Statement.{statement}
+use Rattle.driver_reads.proofs.read.Tie as tie
 
 refusal-number-requires : tie.Need-refusal-number-requires
 refusal-number-requires c κs = search needs
@@ -73,7 +72,7 @@ returns-4 c =
     let a = e .before .before .before .args in
     let is = bench-read (a .bench .now) (b .bench-in .result) (e .if1 .left) (b .bench-in .ensures) in
     rw (eq-eqb _ _ (e .if1 .left), held (a .bench .now) (b .bench-in .result) (e .if1 .left) (b .bench-in .ensures) (f .before .bad-bench .ensures) (f .if2 .left), eq-eqb _ _ (g .if3 .left))
-    (same-reading (a .answer .now) (r .read .ensures ∙ ap (λ (x : Bench). readOf x (a .lane)) is) (c .before .before .put-reading .ensures))
+    (same-answer responseWords (a .answer .now) (r .read .ensures ∙ ap (λ (x : Bench). readOf x (a .lane)) is) (c .before .before .put-reading .ensures))
 
 pub read-spec : {M : Type 1} → statement M
 read-spec =

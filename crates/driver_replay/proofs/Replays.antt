@@ -16,7 +16,7 @@ use Rattle.bench.specs.Claim.{benchAfter, modelAnswers}
 use Rattle.bench_replay.specs.Encoding.{answersBytes, callsIn}
 use Rattle.bench_replay.specs.Replay.{ran, replayChecks, accepted, replayAnswer, replayOutput, callsRun}
 use Rattle.driver_layout.specs.Layout.{benchLength, benchBytes}
-use Rattle.driver_bench.specs.Calls.{replayCall, replayedBench, replayedAnswers}
+use Rattle.driver_replay.specs.Calls.{replayCall, replayedBench, replayedAnswers}
 
 -- the same checks find the same fault, whatever would be answered without it
 module _ (x : List Call) (old : List ℕ) (f : List Call → List ℕ) where

@@ -1,10 +1,10 @@
--- `driver_bench::put_reading` meets its contract.
+-- `driver_reads::put_reading` meets its contract.
 -- Assumes nothing.
 use mathlib.Core.Path.{refl}
 use Rattle.katan.proofs.Words.{two-words}
 use borrow.Author.Needs.{needs}
-use Rattle.driver_bench.proofs.put_reading.Statement.{statement}
-use Rattle.driver_bench.proofs.put_reading.Tie as tie
+use Rattle.driver_reads.proofs.put_reading.Statement.{statement}
+use Rattle.driver_reads.proofs.put_reading.Tie as tie
 
 enum-known-reading : tie.Need-enum-known-reading
 enum-known-reading c = search needs

@@ -1,10 +1,10 @@
--- `driver_bench::put_replayed` meets its contract.
+-- `driver_replay::put_replayed` meets its contract.
 -- Assumes nothing.
 use mathlib.Core.Path.{refl, _∙_}
-use Rattle.driver_layout.proofs.Fitted.{it-fits}
+use Rattle.katan.proofs.Copies.{it-fits}
 use borrow.Author.Needs.{needs}
-use Rattle.driver_bench.proofs.put_replayed.Statement.{statement}
-use Rattle.driver_bench.proofs.put_replayed.Tie as tie
+use Rattle.driver_replay.proofs.put_replayed.Statement.{statement}
+use Rattle.driver_replay.proofs.put_replayed.Tie as tie
 
 enum-told : tie.Need-enum-told
 enum-told c = search needs

@@ -1,9 +1,9 @@
--- `driver_bench::bench_or_length` meets its contract.
+-- `driver_reads::bench_or_length` meets its contract.
 -- Assumes nothing.
 use mathlib.Core.Path.{refl, sym, _∙_}
 use borrow.Author.Needs.{needs}
-use Rattle.driver_bench.proofs.bench_or_length.Statement.{statement}
-use Rattle.driver_bench.proofs.bench_or_length.Tie as tie
+use Rattle.driver_reads.proofs.bench_or_length.Statement.{statement}
+use Rattle.driver_reads.proofs.bench_or_length.Tie as tie
 
 bad-bench-requires : tie.Need-bad-bench-requires
 bad-bench-requires c κs = search needs

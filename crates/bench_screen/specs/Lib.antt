@@ -1,0 +1,2 @@
+pub mod Screen
+pub mod Claim

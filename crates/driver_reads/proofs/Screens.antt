@@ -1,0 +1,46 @@
+-- What a screen answers whose lengths are right, and one that is lent other memory than one word for the mask.
+-- Assumes nothing.
+use mathlib.Core.Path.{_≡_, refl, sym, ap, _∙_}
+use mathlib.Core.Bool.{Bool, true, false}
+use mathlib.Core.List.{List}
+use Prim.Native.Nat.{ℕ}
+use lib.ListN.{length}
+use borrow.Author.Tests.{eq-eqb, ne-eqb}
+use Rattle.katan.specs.Bit.{pick}
+use Rattle.katan.specs.Checks.{Outcome, refused, sizeCheck}
+use Rattle.katan.specs.Lent.{statusOf, lentAfter}
+use Rattle.katan.specs.Sizes.{laneCount}
+use Rattle.bench.specs.declared.Bench.{Bench}
+use Rattle.bench.specs.Bench.{lanesOf, heldCheck}
+use Rattle.bench_screen.specs.Screen.{numbersShown, screenAnswer, screenNumbers}
+use Rattle.driver_layout.specs.Layout.{benchLength, benchIn}
+use Rattle.driver_reads.specs.Calls.{shownWords, shownWord, screenCall, screenedNumbers}
+use Rattle.driver_reads.proofs.Held.{same-answer}
+
+-- 1, or else 2 of either output
+one-or-two : (bench out : Bool) → _≡_ {A = Outcome ℕ} (pick bench (refused 1) (pick out (refused 2) (refused 2))) (refused (pick bench 1 2))
+one-or-two true out = refl
+one-or-two false true = refl
+one-or-two false false = refl
+
+module _ (bench : List ℕ) (m : ℕ) (out shown : List ℕ) (n : length bench ≡ benchLength) where
+  -- 2, unless the bench gets 1, whatever the numbers' length
+  pub other-length : (length shown ≡ shownWords → ⊥) → screenCall bench m out shown ≡ refused (pick (heldCheck (benchIn bench) .fault) 1 2)
+  unfolding screenCall
+  other-length k = rw (eq-eqb _ _ n, ne-eqb _ _ k) (one-or-two (heldCheck (benchIn bench) .fault) (sizeCheck laneCount out .fault))
+
+  module _ (k : length shown ≡ shownWords) where
+    as-screen : screenCall bench m out shown ≡ screenAnswer (benchIn bench) m out
+    unfolding screenCall screenAnswer
+    as-screen = rw (eq-eqb _ _ n, eq-eqb _ _ k)
+
+    -- status and lent memory, from what the screen of the bench that was read gives
+    pub same-screen : {r : ℕ} {newout newshown : List ℕ} (b : Bench) (o : Outcome ℕ) → b ≡ benchIn bench → o ≡ screenAnswer b m out → newout ≡ screenNumbers b m out
+        → (r ≡ statusOf o) × (newshown ≡ lentAfter shownWord o shown)
+        → (r ≡ statusOf (screenCall bench m out shown)) × (newout ≡ screenedNumbers bench m out shown) × (newshown ≡ lentAfter shownWord (screenCall bench m out shown) shown)
+    same-screen b o is e f g =
+        let p = same-answer shownWord shown (e ∙ ap (λ (x : Bench). screenAnswer x m out) is ∙ sym as-screen) g in (
+          p .0,
+          f ∙ ap (λ (x : Bench). screenNumbers x m out) is ∙ ap (λ (x : Outcome ℕ). lentAfter (λ y. numbersShown m (lanesOf (benchIn bench))) x out) (sym as-screen),
+          p .1,
+        )
