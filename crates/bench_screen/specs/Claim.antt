@@ -55,15 +55,16 @@ SingleReads = (b : Bench) → heldCheck b .fault ≡ false → (m i : ℕ) → i
 abbrev pub machineLanes : ℕ → List Call → List LaneView
 machineLanes v calls = map (machineView v) (modelAfter v calls .machines)
 
-module _ (v : ℕ) (calls : List Call) (m : ℕ) (out : List ℕ) where
+module _ (v : ℕ) (calls : List Call) (m : ℕ) where
+  -- what the screen shows of them
   abbrev pub shownMask : ℕ
   shownMask = maskShown m (machineLanes v calls)
 
   abbrev pub shownNumbers : List ℕ
   shownNumbers = numbersShown m (machineLanes v calls)
 
-  pub record ShowsMachines : Type 0 where
-    -- the screen is answered, with what it shows of them
+  pub record ShowsMachines (out : List ℕ) : Type 0 where
+    -- the screen of the bench is answered, with these
     pub same-mask : screenAnswer (benchAfter v calls .bench) m out ≡ value shownMask
     pub same-numbers : screenNumbers (benchAfter v calls .bench) m out ≡ shownNumbers
     -- of the lanes named it leaves out exactly those whose machine is empty

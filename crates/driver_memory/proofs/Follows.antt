@@ -23,8 +23,9 @@ use Rattle.driver_bench.specs.Calls.{openCall, openedBench, openedLink, arrival
 use Rattle.driver_layout.specs.ReadBack.{SlotsFit, BenchFits, LinkFits}
 use Rattle.driver_layout.proofs.ReadBack.{bench-read-back, link-read-back}
 use Rattle.driver_layout.proofs.Fits.{bench-in-fits, link-in-fits}
+use Rattle.driver_reads.proofs.Screens.{as-screen, as-numbers}
 use Rattle.driver_bench.proofs.Held.{refused-1}
-use Rattle.driver_memory.specs.Follows.{EveryOpening, Arrives, EveryArrival, EveryRead, EveryPreview}
+use Rattle.driver_memory.specs.Follows.{EveryOpening, Arrives, EveryArrival, EveryRead, EveryScreen, EveryPreview}
 use Rattle.driver_memory.proofs.Fits.{effect-fits}
 
 -- ---- opening
@@ -111,6 +112,9 @@ same-read bench i answer n k false e = rw (eq-eqb _ _ n, e, eq-eqb _ _ k)
 
 pub every-read : EveryRead
 every-read bench i answer n k = same-read bench i answer n k (heldCheck (benchIn bench) .fault) refl
+
+pub every-screen : EveryScreen
+every-screen bench m out shown n k = record { same-mask = as-screen bench m out shown n k; same-numbers = as-numbers bench m out shown n k }
 
 -- ---- a preview
 

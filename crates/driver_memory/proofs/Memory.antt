@@ -11,17 +11,20 @@ use Rattle.bench.specs.declared.Link.{Link}
 use Rattle.bench.specs.Calls.{done, again, at, Answer, stateAfter, answersTo}
 use Rattle.bench.specs.Checks.{LaneView}
 use Rattle.bench.specs.Bench.{freshBench, freshLink, emptySlot, slotView, State, freshState, benchTransition}
-use Rattle.bench.specs.Preview.{previewOf, EventAnswer, answered, previewed, benchEvent}
+use Rattle.bench.specs.Claim.{benchAfter}
+use Rattle.bench.specs.Preview.{previewOf, EventAnswer, answered, previewed, benchEvent, callsOf}
 use Rattle.bench.proofs.Preview.{every-list-with-previews}
+use Rattle.bench_screen.specs.Screen.{screenAnswer, screenNumbers}
+use Rattle.bench_screen.proofs.Theorems.{every-screen as shows-machines}
 use Rattle.driver_layout.specs.Layout.{benchLength, linkLength, benchIn, linkIn}
 use Rattle.driver_layout.specs.ReadBack.{BenchFits, LinkFits}
 use Rattle.driver_layout.proofs.ReadBack.{length-bench, length-link}
 use Rattle.driver_reads.specs.Calls.{readingWords}
 use Rattle.driver_bench.specs.Calls.{arrivalWords, ifCounted, arriveCall}
 use Rattle.driver_memory.specs.Follows.{Opens}
-use Rattle.driver_memory.specs.Memory.{Memory, openedMemory, DriverCall, arrive, read, preview, lentFor, lanesIn, Returned, driverTransition, WellLent, withoutPreviews, withoutShown, eventOf, returnedAs, EveryListInMemory}
+use Rattle.driver_memory.specs.Memory.{Memory, openedMemory, DriverCall, arrive, read, preview, lentFor, lanesIn, Returned, driverTransition, WellLent, withoutPreviews, withoutShown, eventOf, returnedAs, memoryAfter, EveryListInMemory, EveryScreenInMemory}
 use Rattle.driver_memory.proofs.Fits.{effect-fits}
-use Rattle.driver_memory.proofs.Follows.{fresh-bench-fits, fresh-link-fits, opened-bench, opened-link, every-opening, arrives, every-read, every-preview}
+use Rattle.driver_memory.proofs.Follows.{fresh-bench-fits, fresh-link-fits, opened-bench, opened-link, every-opening, arrives, every-read, every-screen, every-preview}
 
 -- ---- what memory keeps to, call by call
 
@@ -101,15 +104,16 @@ state-from calls x = stateAfter benchEvent x (map eventOf calls)
 record SameCalls (m : Memory) (calls : List DriverCall) : Type 0 where
   returns : answersTo driverTransition m calls ≡ returns-from calls (stateIn m)
   state : stateIn (stateAfter driverTransition m calls) ≡ state-from calls (stateIn m)
+  sound : Sound (stateAfter driverTransition m calls)
 
 one-more : (m : Memory) (c : DriverCall) (calls : List DriverCall) → SameCall m c → SameCalls (driverTransition m c .0) calls → SameCalls m (c ∷ calls)
 unfolding stateAfter answersTo zipWith
 one-more m c calls a r =
-    record { returns = ap₂ _∷_ (a .return) (r .returns ∙ ap (returns-from calls) (a .state)); state = r .state ∙ ap (state-from calls) (a .state) }
+    record { returns = ap₂ _∷_ (a .return) (r .returns ∙ ap (returns-from calls) (a .state)); state = r .state ∙ ap (state-from calls) (a .state); sound = r .sound }
 
 same-calls : (m : Memory) → Sound m → (calls : List DriverCall) → WellLent calls → SameCalls m calls
 unfolding stateAfter answersTo zipWith
-same-calls m k [] w = record { returns = refl; state = refl }
+same-calls m k [] w = record { returns = refl; state = refl; sound = k }
 same-calls m k (arrive sent answer ∷ calls) w =
     let a = same-arrival m k sent answer (w .0) (w .1) in
     one-more m (arrive sent answer) calls a (same-calls (driverTransition m (arrive sent answer) .0) (a .next) calls (w .2))
@@ -156,18 +160,35 @@ module _ (v : ℕ) (least : 1 ≤ v) (most : v ≤ 6) (before : Memory) (n : len
         link-fits = rw (opens .fresh-link) fresh-link-fits;
       }
 
+  -- after a list of calls: the state that memory says is the bench's after the list without its previews
+  module _ (calls : List DriverCall) (w : WellLent calls) where
+    run : SameCalls (openedMemory v before) calls
+    run = same-calls (openedMemory v before) opened-sound calls w
+
+    run-state : stateIn (memoryAfter v before calls) ≡ benchAfter v (callsOf (map eventOf calls))
+    run-state = run .state ∙ ap (state-from calls) opened-fresh ∙ every-list-with-previews v least most (map eventOf calls) .same-state
+
 -- THEOREM: every list of a driver's calls, with previews among them, is answered as the reference model answers it, and leaves each lane in memory as its
 -- machine; what its other calls return and the memory it leaves are those of the list without the previews
 pub every-list-in-memory : EveryListInMemory
 every-list-in-memory v least most before n m calls w =
-    let r = same-calls (openedMemory v before) (opened-sound v least most before n m) calls w in
     let l = every-list-with-previews v least most (map eventOf calls) in
     let fresh = opened-fresh v least most before n m in
     let without = left-out calls (openedMemory v before) in
-    let after = r .state ∙ ap (state-from calls) fresh ∙ l .same-state in
     record {
-      same-returns = r .returns ∙ ap (returns-from calls) fresh ∙ ap (λ (xs : List EventAnswer). zipWith returnedAs xs (map lentFor calls)) (l .same-answers);
-      same-lanes = λ i lt. ap (λ (x : State). slotView (getD (x .bench .slots) i emptySlot)) after ∙ l .without-previews .same-lanes i lt;
+      same-returns = run v least most before n m calls w .returns ∙ ap (returns-from calls) fresh ∙ ap (λ (xs : List EventAnswer). zipWith returnedAs xs (map lentFor calls)) (l .same-answers);
+      same-lanes = λ i lt. ap (λ (x : State). slotView (getD (x .bench .slots) i emptySlot)) (run-state v least most before n m calls w) ∙ l .without-previews .same-lanes i lt;
       same-calls = without .0;
       same-memory = without .1;
+    }
+
+-- THEOREM: after every list of a driver's calls a screen shows the reference model's machines
+pub every-screen-in-memory : EveryScreenInMemory
+every-screen-in-memory v least most before n m calls w mask some out shown len k =
+    let e = ap (λ (x : State). x .bench) (run-state v least most before n m calls w) in
+    let s = every-screen (memoryAfter v before calls .bench) mask out shown (run v least most before n m calls w .sound .bench-size) k in
+    let l = shows-machines v least most (callsOf (map eventOf calls)) mask some out len in
+    record {
+      same-mask = s .same-mask ∙ ap (λ (b : Bench). screenAnswer b mask out) e ∙ l .same-mask;
+      same-numbers = s .same-numbers ∙ ap (λ (b : Bench). screenNumbers b mask out) e ∙ l .same-numbers;
     }

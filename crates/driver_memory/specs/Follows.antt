@@ -1,6 +1,6 @@
 -- A driver's calls one by one, on memory of the right lengths: opening gives memory that says the fresh bench and link, whatever it held; an arrival, on
 -- memory of bytes, and a read find the state that the memory says, answer as the call of a list does (bench's `benchTransition`), and leave memory that
--- says the state that it leaves; a preview is an arrival in a copy.
+-- says the state that it leaves; a screen shows the bench that the memory says; a preview is an arrival in a copy.
 -- Assumes nothing.
 use Prim.Native.Nat.{ℕ, _≤_}
 use mathlib.Core.Path.{_≡_}
@@ -9,8 +9,9 @@ use lib.ListN.{length}
 use Rattle.katan.specs.Bit.{AreBytes}
 use Rattle.katan.specs.Lent.{statusOf}
 use Rattle.bench.specs.Bench.{freshBench, freshLink, readOf}
+use Rattle.bench_screen.specs.Screen.{screenAnswer, screenNumbers}
 use Rattle.driver_layout.specs.Layout.{benchLength, linkLength, benchIn, linkIn}
-use Rattle.driver_reads.specs.Calls.{readingWords, readCall}
+use Rattle.driver_reads.specs.Calls.{readingWords, readCall, shownWords, screenCall, screenedNumbers}
 use Rattle.driver_bench.specs.Calls.{openCall, openedBench, openedLink, arrivalWords, arriveEffect, arriveCall, arrivedBench, arrivedLink, previewCall, previewedRoom}
 
 pub record Opens (v : ℕ) (bench link : List ℕ) : Type 0 where
@@ -35,6 +36,15 @@ EveryArrival =
 
 abbrev pub EveryRead : Type 0
 EveryRead = (bench : List ℕ) (i : ℕ) (answer : List ℕ) → length bench ≡ benchLength → length answer ≡ readingWords → readCall bench i answer ≡ readOf (benchIn bench) i
+
+-- a screen's check 1 and 2 of the numbers are its own
+pub record Screens (bench : List ℕ) (m : ℕ) (out shown : List ℕ) : Type 0 where
+  pub same-mask : screenCall bench m out shown ≡ screenAnswer (benchIn bench) m out
+  pub same-numbers : screenedNumbers bench m out shown ≡ screenNumbers (benchIn bench) m out
+
+-- numbers of any length
+abbrev pub EveryScreen : Type 0
+EveryScreen = (bench : List ℕ) (m : ℕ) (out shown : List ℕ) → length bench ≡ benchLength → length shown ≡ shownWords → Screens bench m out shown
 
 -- the status and, with it, the answer are those of an arrival, and the room holds what it would leave in the bench's memory, whatever that status is
 pub record Previews (bench link sent answer room : List ℕ) : Type 0 where

@@ -1,12 +1,13 @@
 -- Demand 3 in a driver's own memory: a bench is opened in it, whatever it held, and a list of calls follows, each finding the memory that the last one
 -- left, with previews anywhere among them. Every status, every word of an answer and every lane that a preview shows is the reference model's, and the
--- lanes in memory are its machines.
+-- lanes in memory are its machines; so are those that a screen then shows.
 -- Assumes nothing.
 use Prim.Native.Nat.{ℕ, _<_, _≤_}
 use mathlib.Core.Path.{_≡_}
 use mathlib.Core.List.{List, [], _∷_, map, zipWith}
 use lib.ListN.{length, getD}
 use Rattle.katan.specs.Bit.{AreBytes}
+use Rattle.katan.specs.Checks.{value}
 use Rattle.katan.specs.Lent.{statusOf, lentAfter}
 use Rattle.katan.specs.Sizes.{laneCount}
 use Rattle.bench.specs.Calls.{arrival, reading, stateAfter, answersTo}
@@ -15,8 +16,9 @@ use Rattle.bench.specs.Model.{machineView}
 use Rattle.bench.specs.Bench.{emptySlot, slotView, lanesOf}
 use Rattle.bench.specs.Claim.{machineAfter}
 use Rattle.bench.specs.Preview.{Event, call, preview as previewEvent, EventAnswer, answered, previewed, callsOf, modelEventAnswers}
+use Rattle.bench_screen.specs.Claim.{shownMask, shownNumbers}
 use Rattle.driver_layout.specs.Layout.{benchLength, linkLength, benchIn}
-use Rattle.driver_reads.specs.Calls.{readingWords, responseWords, readCall}
+use Rattle.driver_reads.specs.Calls.{readingWords, responseWords, readCall, shownWords, screenCall, screenedNumbers}
 use Rattle.driver_bench.specs.Calls.{openedBench, openedLink, arrivalWords, arriveCall, arrivedBench, arrivedLink, arrivedAnswer, previewCall, previewedAnswer, previewedRoom}
 
 -- ---- a driver's memory, and its calls
@@ -128,3 +130,17 @@ abbrev pub EveryListInMemory : Type 0
 EveryListInMemory =
     (v : ℕ) → 1 ≤ v → v ≤ 6 → (before : Memory) → length (before .bench) ≡ benchLength → length (before .link) ≡ linkLength
     → (calls : List DriverCall) → WellLent calls → FollowsModelInMemory v before calls
+
+-- ---- a screen after the list, which is lent the memory to read only
+
+pub record ShowsMachinesInMemory (v : ℕ) (before : Memory) (calls : List DriverCall) (m : ℕ) (out shown : List ℕ) : Type 0 where
+  -- it is answered, with what the screen shows of the reference model's machines: bench_screen's claim says lane by lane what that is
+  pub same-mask : screenCall (memoryAfter v before calls .bench) m out shown ≡ value (shownMask v (callsOf (map eventOf calls)) m)
+  pub same-numbers : screenedNumbers (memoryAfter v before calls .bench) m out shown ≡ shownNumbers v (callsOf (map eventOf calls)) m
+
+-- for every variant and every list, every mask but 0, and outputs of 64 words and of one
+abbrev pub EveryScreenInMemory : Type 0
+EveryScreenInMemory =
+    (v : ℕ) → 1 ≤ v → v ≤ 6 → (before : Memory) → length (before .bench) ≡ benchLength → length (before .link) ≡ linkLength
+    → (calls : List DriverCall) → WellLent calls
+    → (m : ℕ) → 0 < m → (out shown : List ℕ) → length out ≡ laneCount → length shown ≡ shownWords → ShowsMachinesInMemory v before calls m out shown

@@ -1,2 +1,2 @@
 pub mod Held
-mod Screens
+pub mod Screens

@@ -30,9 +30,12 @@ module _ (bench : List ℕ) (m : ℕ) (out shown : List ℕ) (n : length bench �
   other-length k = rw (eq-eqb _ _ n, ne-eqb _ _ k) (one-or-two (heldCheck (benchIn bench) .fault) (sizeCheck laneCount out .fault))
 
   module _ (k : length shown ≡ shownWords) where
-    as-screen : screenCall bench m out shown ≡ screenAnswer (benchIn bench) m out
+    pub as-screen : screenCall bench m out shown ≡ screenAnswer (benchIn bench) m out
     unfolding screenCall screenAnswer
     as-screen = rw (eq-eqb _ _ n, eq-eqb _ _ k)
+
+    pub as-numbers : screenedNumbers bench m out shown ≡ screenNumbers (benchIn bench) m out
+    as-numbers = ap (λ (x : Outcome ℕ). lentAfter (λ y. numbersShown m (lanesOf (benchIn bench))) x out) as-screen
 
     -- status and lent memory, from what the screen of the bench that was read gives
     pub same-screen : {r : ℕ} {newout newshown : List ℕ} (b : Bench) (o : Outcome ℕ) → b ≡ benchIn bench → o ≡ screenAnswer b m out → newout ≡ screenNumbers b m out
@@ -41,6 +44,6 @@ module _ (bench : List ℕ) (m : ℕ) (out shown : List ℕ) (n : length bench �
     same-screen b o is e f g =
         let p = same-answer shownWord shown (e ∙ ap (λ (x : Bench). screenAnswer x m out) is ∙ sym as-screen) g in (
           p .0,
-          f ∙ ap (λ (x : Bench). screenNumbers x m out) is ∙ ap (λ (x : Outcome ℕ). lentAfter (λ y. numbersShown m (lanesOf (benchIn bench))) x out) (sym as-screen),
+          f ∙ ap (λ (x : Bench). screenNumbers x m out) is ∙ sym as-numbers,
           p .1,
         )

@@ -513,8 +513,8 @@ impl Bench {
     /// for (lane, registers) in screen.lanes() {
     ///     assert_eq!(bench.read(lane)?.registers, registers);
     /// }
-    /// assert_eq!(screen.registers(0), Some(0x00f8001e));
-    /// // Under a key of zeros, a block of zeros stays: the lane is shown all the same.
+    /// // Under a key of zeros, a block of zeros stays: lane 2 is shown all the same.
+    /// assert_eq!(screen.lanes().collect::<Vec<_>>(), [(0, 0x00f8001e), (2, 0)]);
     /// assert_eq!(screen.registers(2), Some(0));
     /// assert_eq!([1, 63, 64].map(|lane| screen.registers(lane)), [None; 3]);
     ///

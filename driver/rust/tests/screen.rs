@@ -245,8 +245,8 @@ fn wrapped(bench: &Bench, mask: u64, expected: Screen) {
                 .collect();
             assert_eq!(got.shown(), lanes);
             assert_eq!(got.lanes().collect::<Vec<_>>(), shown);
-            for lane in 0..LANES {
-                let of_lane = names(lanes, lane).then_some(registers[lane]);
+            for (lane, registers) in registers.into_iter().enumerate() {
+                let of_lane = names(lanes, lane).then_some(registers);
                 let lane = lane as u64;
                 assert_eq!(got.registers(lane), of_lane);
                 for other in [lane + 64, lane + (1 << 32), ALL - lane] {
@@ -258,19 +258,23 @@ fn wrapped(bench: &Bench, mask: u64, expected: Screen) {
 }
 
 /// Benches that lists of records leave: in each variant a load at each position, with moves and clears
-/// among them. The model's bench gets the same records, and finds a lane's registers from its load.
+/// among them. The model's bench gets the same records, and finds a lane's registers from its load. Some
+/// loads are of the zero block under a zero key, which is zero at each position.
 #[test]
 fn lists_of_records() {
     let mut trial = trial("lists_of_records");
-    let mut kinds = [0; 5];
+    let (mut kinds, mut zeros) = ([0; 5], 0);
     for variant in 1..=6 {
         let mut ours = Bench::open(variant).unwrap();
         let mut theirs = katan_model::Bench::new(variant).unwrap();
         let mut positions = [0; 255];
         for position in 0..=254 {
             let random = &mut trial.random;
-            let (lane, key) = (random.below(64) as u8, random.key());
-            let block = random.bits(width(variant));
+            let lane = random.below(64) as u8;
+            let (key, block) = match random.below(8) {
+                0 => ([0; 10], 0),
+                _ => (random.key(), random.bits(width(variant))),
+            };
             let mut list = vec![records::load(0, lane, position, &key, block)];
             if random.below(2) == 0 {
                 let (mask, count) = (some_mask(random), random.count());
@@ -297,6 +301,7 @@ fn lists_of_records() {
                     assert_eq!(shown, [lanes], "variant {variant}, {mask:x}");
                     for lane in (0..LANES).filter(|lane| names(lanes, *lane)) {
                         positions[theirs.position(lane).unwrap() as usize] += 1;
+                        zeros += (registers[lane] == 0) as u32;
                     }
                 }
             }
@@ -306,6 +311,7 @@ fn lists_of_records() {
         assert!(positions[0] > 0 && positions[254] > 0 && met > 150, "{met}");
     }
     assert!(kinds[1..].iter().all(|count| *count > 50), "{kinds:?}");
+    assert!(zeros > 100, "{zeros}");
     trial.close(&[0, 8]);
 }
 
