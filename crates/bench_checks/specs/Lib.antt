@@ -1,2 +1,1 @@
 pub mod Decision
-pub mod inner

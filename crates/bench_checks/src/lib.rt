@@ -7,20 +7,18 @@ ghost use Rattle.katan.specs.Variant.{widthOf};
 ghost use Rattle.bench_record.specs.Fields.{decode};
 ghost use Rattle.bench.specs.Checks.{laneFault, anyLaneFault, benchCheck, turnChecks, turnOf, decision};
 ghost use Rattle.bench.specs.Bench.{laneView, slotView, benchView};
+ghost use Rattle.bench_fields.specs.Answers.{fieldOutcome};
 ghost use Rattle.bench_checks.specs.Decision.{decisionOutcome};
-ghost use Rattle.bench_checks.specs.inner.Answers.{fieldOutcome};
-use crate::fields::FieldAnswer;
-use crate::fields::field_fault;
 use bench::Bench;
 use bench::Lane;
 use bench::Link;
+use bench_fields::FieldAnswer;
+use bench_fields::field_fault;
 use bench_record::LENGTH;
 use bench_record::Record;
 use katan::LANES;
 use katan::Refusal;
 use katan::RowAnswer;
-
-mod fields;
 
 // Check 1 of a lane, on a bench of any variant of width n.
 fn lane_fault(n: usize, lane: Lane) -> bool

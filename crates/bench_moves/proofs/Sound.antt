@@ -25,7 +25,7 @@ use Rattle.bench.specs.declared.Bench.{Bench}
 use Rattle.bench.specs.Checks.{LaneView, laneFault, anyLaneFault, benchCheck}
 use Rattle.bench.specs.Bench.{laneView, slotView}
 use Rattle.bench.specs.Steps.{loadedAt, stepSlots, movedSlots}
-use Rattle.bench_checks.proofs.Tests.{neither}
+use Rattle.katan.proofs.Booleans.{neither}
 use Rattle.bench_moves.specs.Moves.{laneAs, movedAs, stepLane, moveLane, withSlots}
 use Rattle.bench_moves.specs.inner.Sound.{SoundLane, SoundBench}
 use Rattle.bench_moves.specs.declared.Motion.{Motion}

@@ -57,7 +57,7 @@ pub fn replay(variant: u8, calls: &[u8], out: &mut [u8]) -> Replayed
     ensures { λ r. ⌜ ((i : ℕ) → i < laneCount
         → slotView (getD (r .bench .slots) i emptySlot) ≡ machineView variant (machineAfter variant (callsRun variant (now (calls .entry)) (now (out .entry))) i)) ⌝ }
 {
-    let bench = bench_stepping::fresh_bench(variant);
+    let bench = bench_fresh::fresh_bench(variant);
     let bad = katan_variants::bad_variant(variant);
     let whole = fits(calls, out.len());
     if bad {
@@ -72,7 +72,7 @@ pub fn replay(variant: u8, calls: &[u8], out: &mut [u8]) -> Replayed
             answer: ReplayAnswer::Refused(Refusal::BadLength),
         };
     }
-    let after = run(bench, bench_stepping::fresh_link(), calls, out);
+    let after = run(bench, bench_fresh::fresh_link(), calls, out);
     Replayed {
         bench: after,
         answer: ReplayAnswer::Done,

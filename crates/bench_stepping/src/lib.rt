@@ -1,10 +1,8 @@
-// The stepping bench at work: a fresh bench and link, an arrival, a preview, and a read.
+// The stepping bench at work: an arrival, a preview, and a read.
 ghost use mathlib.Core.Path.{_≡_};
-ghost use mathlib.Core.List.{[], _∷_};
-ghost use Rattle.katan.specs.Checks.{value, checked, variantCheck};
-ghost use Rattle.bench.specs.Bench.{freshBench, freshLink, arriveOf, effectOf, readOf, readingAnswer};
+ghost use Rattle.bench.specs.Bench.{arriveOf, effectOf, readOf, readingAnswer};
 ghost use Rattle.bench.specs.Preview.{previewOf};
-ghost use Rattle.bench_stepping.specs.Answers.{openOutcome, leaving, previewedBy};
+ghost use Rattle.bench_stepping.specs.Answers.{leaving, previewedBy};
 use crate::counted::step;
 use bench::ArrivalResult;
 use bench::Bench;
@@ -14,73 +12,11 @@ use bench::Link;
 use bench::ReadAnswer;
 use bench::Reading;
 use bench::Reply;
-use bench::Slot;
 use bench_checks::Decision;
-use bench_record::LENGTH;
 use katan::LANES;
 use katan::Refusal;
-use katan::RowAnswer;
 
 mod counted;
-
-pub fn fresh_link() -> Link
-    ensures { λ r. ⌜ r ≡ freshLink ⌝ }
-{
-    let bytes = [0u8; LENGTH];
-    Link {
-        last: 0,
-        bytes: bytes,
-        total: 0,
-    }
-}
-
-// A bench of empty lanes, for any variant number: check 1 of a later call refuses one that is not 1 to 6.
-pub fn fresh_bench(variant: u8) -> Bench
-    ensures { λ r. ⌜ r ≡ freshBench variant ⌝ }
-{
-    let none = Slot { lane: Lane::Empty };
-    let slots = [none; LANES];
-    Bench {
-        variant: variant,
-        slots: slots,
-    }
-}
-
-// What opening a bench answers.
-pub enum OpenAnswer {
-    Opened,
-    Refused(Refusal),
-}
-
-// A fresh bench with its link, and the answer.
-pub struct Opening {
-    pub bench: Bench,
-    pub link: Link,
-    pub answer: OpenAnswer,
-}
-
-fn variant_fault(variant: u8) -> OpenAnswer
-    ensures { λ r. ⌜ openOutcome r ≡ checked (variantCheck variant ∷ []) (value tt) ⌝ }
-{
-    match katan_variants::row_of(variant) {
-        RowAnswer::Found(_) => OpenAnswer::Opened,
-        RowAnswer::Refused(r) => OpenAnswer::Refused(r),
-    }
-}
-
-pub fn open(variant: u8) -> Opening
-    ensures { λ r. ⌜ (r .bench ≡ freshBench variant) × (r .link ≡ freshLink)
-        × (openOutcome (r .answer) ≡ checked (variantCheck variant ∷ []) (value tt)) ⌝ }
-{
-    let bench = fresh_bench(variant);
-    let link = fresh_link();
-    let answer = variant_fault(variant);
-    Opening {
-        bench: bench,
-        link: link,
-        answer: answer,
-    }
-}
 
 // An arrival, with the link by value.
 fn arrive_core(bench: Bench, link: Link, sent: &[u8]) -> ArrivalResult

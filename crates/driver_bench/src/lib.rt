@@ -111,8 +111,8 @@ pub fn open(variant: u8, bench: &mut [u8], link: &mut [u8]) -> u8
     if link.len() != LINK_LENGTH {
         return refusal_number(Refusal::BadLength);
     }
-    put_bench(bench_stepping::fresh_bench(variant), bench);
-    put_link(bench_stepping::fresh_link(), link);
+    put_bench(bench_fresh::fresh_bench(variant), bench);
+    put_link(bench_fresh::fresh_link(), link);
     ACCEPTED
 }
 

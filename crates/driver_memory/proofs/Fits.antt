@@ -29,7 +29,7 @@ use Rattle.bench.specs.Checks.{laneFault, anyLaneFault, Turn, counts, repeats, 
 use Rattle.bench.specs.Bench.{laneView, slotView, benchView, countedEffect, effectAs, arriveOf}
 use Rattle.bench.specs.Steps.{loadedBy, loadedAt, forwardLane, backLane, forwardMoved, backMoved, stepSlots, movedSlots, slotsAs, totalAs}
 use Rattle.bench.proofs.Turns.{counts-next}
-use Rattle.bench_checks.proofs.Tests.{neither}
+use Rattle.katan.proofs.Booleans.{neither}
 use Rattle.bench_stepping.proofs.Effects.{counts-sound}
 use Rattle.driver_layout.specs.ReadBack.{LaneFits, SlotsFit, BenchFits, LinkFits}
 

@@ -17,7 +17,7 @@ use bench::Bench;
 use bench::Link;
 use bench::ReadAnswer;
 use bench::Reply;
-use bench_stepping::OpenAnswer;
+use bench_fresh::OpenAnswer;
 use katan::Key;
 use katan::Refusal;
 use katan::RoundPosition;
@@ -317,7 +317,7 @@ fn bench_line(session: Session, digits: &[u8]) -> Turn {
         return unaltered(session, Outcome::BadLine);
     }
     let number = (variant.value % 256) as u8;
-    let opening = bench_stepping::open(number);
+    let opening = bench_fresh::open(number);
     let answer = opening.answer;
     match answer {
         OpenAnswer::Opened => leaving(opening.bench, opening.link, Outcome::Opened(number)),
@@ -433,7 +433,7 @@ fn print(o: Outcome) {
 
 // The bench and link before any b line, which no call meets.
 fn first_session() -> Session {
-    let opening = bench_stepping::open(1);
+    let opening = bench_fresh::open(1);
     let bench = opening.bench;
     let link = opening.link;
     Session {

@@ -60,8 +60,8 @@ pub fn start() -> Script
 {
     let session = Session {
         is_open: false,
-        bench: bench_stepping::fresh_bench(0),
-        link: bench_stepping::fresh_link(),
+        bench: bench_fresh::fresh_bench(0),
+        link: bench_fresh::fresh_link(),
     };
     let pending = Pending {
         bytes: [0u8; PENDING],

@@ -9,9 +9,9 @@ use Rattle.bench.specs.Calls.{reading, Answer}
 use Rattle.bench.specs.Bench.{Effect, effectOf, arriveOf, readOf, replyAnswer, readingAnswer, benchTransition, afterEffect}
 use Rattle.bench.specs.declared.ArrivalResult.{ArrivalResult}
 use Rattle.bench.specs.declared.ReadAnswer.{ReadAnswer}
-use Rattle.bench_stepping.specs.Answers.{openOutcome}
-use Rattle.bench_stepping.specs.declared.OpenAnswer.{OpenAnswer}
-use Rattle.bench_stepping.specs.declared.OpenAnswer.the-variants.{Opened, Refused}
+use Rattle.bench_fresh.specs.Answers.{openOutcome}
+use Rattle.bench_fresh.specs.declared.OpenAnswer.{OpenAnswer}
+use Rattle.bench_fresh.specs.declared.OpenAnswer.the-variants.{Opened, Refused}
 use Rattle.script_answers.specs.Printed.{openedLine, answerLine, printedAs}
 use Rattle.script_answers.specs.declared.Printed.{Printed}
 use Rattle.script_answers.proofs.Lines.{reply-line}

@@ -7,11 +7,11 @@ use crate::records::load_record;
 use crate::records::move_record;
 use bench::Bench;
 use bench::Link;
+use bench_fresh::OpenAnswer;
 use bench_record::BACK;
 use bench_record::CLEAR;
 use bench_record::FORWARD;
 use bench_record::LENGTH;
-use bench_stepping::OpenAnswer;
 use katan::Refusal;
 use script_answers::Printed;
 use script_command::Command;
@@ -44,7 +44,7 @@ fn variant_of(session: Session) -> u8
 fn opened(session: Session, variant: u8) -> LineResult
     ensures { λ r. ⌜ r ≡ resultOf (opens variantOf openBench sessionTransition session variant) ⌝ }
 {
-    let opening = bench_stepping::open(variant);
+    let opening = bench_fresh::open(variant);
     let answer = opening.answer;
     match answer {
         OpenAnswer::Opened => {

@@ -6,8 +6,8 @@ use Rattle.bench_record.specs.Fields.{decode}
 use Rattle.bench_record.specs.Checks.{fieldChecks}
 use Rattle.bench.specs.Checks.{Turn, counts, repeats, decision}
 use Rattle.bench.specs.Bench.{benchView}
+use Rattle.bench_fields.specs.Answers.{fieldOutcome}
 use Rattle.bench_checks.specs.Decision.{decisionOutcome}
-use Rattle.bench_checks.specs.inner.Answers.{fieldOutcome}
 use Rattle.bench_checks.proofs.Decisions.{refused-1, refused-2, refused-9-10, form-decides}
 use borrow.Author.Needs.{needs}
 use Rattle.bench_checks.proofs.first_fault.Statement.{statement}

@@ -1,8 +1,8 @@
 use mathlib.Core.Path.{sym, ap, _∙_}
 use Rattle.katan.specs.Checks.{value}
 use Rattle.katan.proofs.Checked.{no-fault-found, all-passed, fault-found}
+use Rattle.bench_fields.specs.Answers.{fieldOutcome}
 use Rattle.bench_checks.specs.Decision.{decisionOutcome}
-use Rattle.bench_checks.specs.inner.Answers.{fieldOutcome}
 use borrow.Author.Needs.{needs}
 use Rattle.bench_checks.proofs.in_form.Statement.{statement}
 use Rattle.bench_checks.proofs.in_form.Tie as tie

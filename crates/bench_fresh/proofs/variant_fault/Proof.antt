@@ -2,8 +2,8 @@ use mathlib.Core.Path.{ap}
 use Rattle.katan.specs.Checks.{refused}
 use Rattle.katan.proofs.Variants.{row-found, row-refused}
 use borrow.Author.Needs.{needs}
-use Rattle.bench_stepping.proofs.variant_fault.Statement.{statement}
-use Rattle.bench_stepping.proofs.variant_fault.Tie as tie
+use Rattle.bench_fresh.proofs.variant_fault.Statement.{statement}
+use Rattle.bench_fresh.proofs.variant_fault.Tie as tie
 
 row-of-requires : tie.Need-row-of-requires
 row-of-requires c κs = search needs

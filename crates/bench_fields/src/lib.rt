@@ -4,7 +4,7 @@ ghost use Prim.Native.Nat.{ℕ};
 ghost use Rattle.katan.specs.Checks.{value, checked};
 ghost use Rattle.bench_record.specs.Fields.{load, forward, clear};
 ghost use Rattle.bench_record.specs.Checks.{zeroBytes, loadFields, checksOf, fieldChecks};
-ghost use Rattle.bench_checks.specs.inner.Answers.{fieldOutcome};
+ghost use Rattle.bench_fields.specs.Answers.{fieldOutcome};
 use bench_record::BACK;
 use bench_record::CLEAR;
 use bench_record::FORWARD;

@@ -4,8 +4,8 @@ use Rattle.bench_record.specs.Fields.{Kind}
 use Rattle.bench_record.specs.Checks.{unknown, unused, wrongCount, noneNamed, checksOf}
 use Rattle.bench_record.proofs.ByKind.{is-load, is-forward, is-back, is-clear, is-other}
 use borrow.Author.Needs.{needs}
-use Rattle.bench_checks.proofs.fields.field_fault.Statement.{statement}
-use Rattle.bench_checks.proofs.fields.field_fault.Tie as tie
+use Rattle.bench_fields.proofs.field_fault.Statement.{statement}
+use Rattle.bench_fields.proofs.field_fault.Tie as tie
 
 load-fault-requires : tie.Need-load-fault-requires
 load-fault-requires c κs = search needs

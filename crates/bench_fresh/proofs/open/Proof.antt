@@ -1,6 +1,6 @@
 use borrow.Author.Needs.{needs}
-use Rattle.bench_stepping.proofs.open.Statement.{statement}
-use Rattle.bench_stepping.proofs.open.Tie as tie
+use Rattle.bench_fresh.proofs.open.Statement.{statement}
+use Rattle.bench_fresh.proofs.open.Tie as tie
 
 fresh-bench-requires : tie.Need-fresh-bench-requires
 fresh-bench-requires c κs = search needs

@@ -1,6 +1,6 @@
-use Rattle.bench_checks.proofs.Tests.{nonzero-true, nonzero-false}
-use Rattle.bench_checks.proofs.fields.zero_bytes.Statement.{statement}
-use Rattle.bench_checks.proofs.fields.zero_bytes.Tie as tie
+use Rattle.bench_fields.proofs.Tests.{nonzero-true, nonzero-false}
+use Rattle.bench_fields.proofs.zero_bytes.Statement.{statement}
+use Rattle.bench_fields.proofs.zero_bytes.Tie as tie
 
 returns : tie.Need-returns
 returns c = rw (nonzero-true _ (c .if1 .taken))

@@ -1,9 +1,8 @@
 -- Tests of a record's fields, and the checks that check 4 answers for a move or a clear.
 -- Assumes nothing.
-use mathlib.Core.Path.{_≡_, refl, ap, _∙_}
-use mathlib.Core.Bool.{Bool, true, false, not, _||_}
+use mathlib.Core.Path.{_≡_, ap, _∙_}
+use mathlib.Core.Bool.{true, false, not, _||_}
 use Prim.Native.Nat.{ℕ, _^_}
-use native.Mathlib.Omega.{arith}
 use borrow.Author.Tests.{eq-eqb, ne-eqb, eqb-true, not-false, lt-leb}
 use lib.Dec.{leb}
 use lib.Pow.{pow-pos}
@@ -12,6 +11,7 @@ use Rattle.katan.specs.Bit.{pick}
 use Rattle.katan.specs.Checks.{Outcome, refused, checked}
 use Rattle.katan.specs.Sizes.{laneCount}
 use Rattle.katan.specs.Key.{keyNumber}
+use Rattle.katan.proofs.Booleans.{neither}
 use Rattle.bench_record.specs.declared.Record.{Record}
 use Rattle.bench_record.specs.Fields.{Kind}
 use Rattle.bench_record.specs.Checks.{nonzero, unknown, loadFields, unused, zeroBytes, wrongCount, noneNamed, checksOf}
@@ -24,10 +24,6 @@ nonzero-false x e = ap not (eq-eqb x 0 e)
 
 is-zero : (x : ℕ) → nonzero x ≡ false → x ≡ 0
 is-zero x e = eqb-true x 0 (not-false _ e)
-
-pub neither : (a b : Bool) → a || b ≡ false → (a ≡ false) × (b ≡ false)
-neither true b e = let z : _≡_ {A = ℕ} 0 1 = cc in absurd (omega arith)
-neither false b e = (refl, e)
 
 -- where check 4 of a move or a clear finds no fault, lane and block are zero, so neither do 5 and 7
 pub after-4 : {A : Type 0} (k : Kind) (v : ℕ) (r : Record) (o : Outcome A)

@@ -1,8 +1,8 @@
 -- What the checks of a record's fields answer.
 -- Assumes nothing.
 use Rattle.katan.specs.Checks.{numberOf, Outcome, value, refused}
-use Rattle.bench_checks.specs.declared.fields.FieldAnswer.{FieldAnswer}
-use Rattle.bench_checks.specs.declared.fields.FieldAnswer.the-variants.{Sound, Refused}
+use Rattle.bench_fields.specs.declared.FieldAnswer.{FieldAnswer}
+use Rattle.bench_fields.specs.declared.FieldAnswer.the-variants.{Sound, Refused}
 
 -- nothing, or the refusal's number
 abbrev pub fieldOutcome : FieldAnswer → Outcome (Unit {0})

@@ -3,9 +3,9 @@ use mathlib.Core.Bool.{false}
 use native.Mathlib.Omega.{arith}
 use Rattle.katan.specs.Key.{keyNumber}
 use Rattle.bench_record.specs.Checks.{nonzero}
-use Rattle.bench_checks.proofs.Tests.{nonzero-true, nonzero-false}
-use Rattle.bench_checks.proofs.fields.load_fields.Statement.{statement}
-use Rattle.bench_checks.proofs.fields.load_fields.Tie as tie
+use Rattle.bench_fields.proofs.Tests.{nonzero-true, nonzero-false}
+use Rattle.bench_fields.proofs.load_fields.Statement.{statement}
+use Rattle.bench_fields.proofs.load_fields.Tie as tie
 
 returns : tie.Need-returns
 returns c = rw (nonzero-true _ (c .if1 .taken))

@@ -10,10 +10,10 @@ use Rattle.katan.specs.Sizes.{laneCount}
 use Rattle.bench_record.specs.declared.Record.{Record}
 use Rattle.bench_record.specs.Fields.{load}
 use Rattle.bench_record.specs.Checks.{unknown, unused, zeroBytes, wrongCount, noneNamed, checksOf}
-use Rattle.bench_checks.proofs.Tests.{nonzero-true, nonzero-false}
+use Rattle.bench_fields.proofs.Tests.{nonzero-true, nonzero-false}
 use borrow.Author.Needs.{needs}
-use Rattle.bench_checks.proofs.fields.load_fault.Statement.{statement}
-use Rattle.bench_checks.proofs.fields.load_fault.Tie as tie
+use Rattle.bench_fields.proofs.load_fault.Statement.{statement}
+use Rattle.bench_fields.proofs.load_fault.Tie as tie
 
 zero-bytes-requires : tie.Need-zero-bytes-requires
 zero-bytes-requires c κs = search needs

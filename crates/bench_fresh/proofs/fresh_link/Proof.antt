@@ -1,6 +1,6 @@
 use mathlib.Core.Path.{refl}
-use Rattle.bench_stepping.proofs.fresh_link.Statement.{statement}
-use Rattle.bench_stepping.proofs.fresh_link.Tie as tie
+use Rattle.bench_fresh.proofs.fresh_link.Statement.{statement}
+use Rattle.bench_fresh.proofs.fresh_link.Tie as tie
 
 returns : tie.Need-returns
 returns c = refl

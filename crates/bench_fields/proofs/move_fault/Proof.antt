@@ -9,10 +9,10 @@ use Rattle.katan.specs.Checks.{value, refused, checked}
 use Rattle.bench_record.specs.declared.Record.{Record}
 use Rattle.bench_record.specs.Fields.{forward}
 use Rattle.bench_record.specs.Checks.{unknown, unused, zeroBytes, wrongCount, noneNamed, checksOf}
-use Rattle.bench_checks.proofs.Tests.{after-4}
+use Rattle.bench_fields.proofs.Tests.{after-4}
 use borrow.Author.Needs.{needs}
-use Rattle.bench_checks.proofs.fields.move_fault.Statement.{statement}
-use Rattle.bench_checks.proofs.fields.move_fault.Tie as tie
+use Rattle.bench_fields.proofs.move_fault.Statement.{statement}
+use Rattle.bench_fields.proofs.move_fault.Tie as tie
 
 zero-bytes-requires : tie.Need-zero-bytes-requires
 zero-bytes-requires c κs = search needs
