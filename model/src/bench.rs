@@ -792,7 +792,7 @@ mod tests {
         };
         for variant in 1..=6 {
             let bench = Bench::new(variant).unwrap();
-            for mask in (0..64).map(|lane| 1 << lane).chain([ALL]) {
+            for mask in (0..LANES).map(|lane| 1 << lane).chain([ALL]) {
                 assert_eq!(bench.screen(mask), nothing, "{mask:x}");
             }
             assert_eq!(bench.screen(0), Screen::Refused(8));
@@ -810,7 +810,7 @@ mod tests {
             for number in 1..=60 {
                 let record = random_record(&mut random, variant.width());
                 arrive(&mut bench, &numbered(&record, number));
-                let mask = random.lanes() | 1 << random.below(64);
+                let mask = random.lanes() | 1 << random.below(LANES as u64);
                 let Screen::Shows { registers, lanes } = bench.screen(mask) else {
                     panic!("{mask:x} is refused");
                 };

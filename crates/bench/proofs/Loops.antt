@@ -1,17 +1,20 @@
--- For code over these definitions: one turn of each loop, a lane's view.
+-- For code over these definitions: one turn of each loop, a lane's view, a read.
 -- Assumes nothing.
-use mathlib.Core.Path.{_≡_}
-use mathlib.Core.Bool.{_||_}
+use mathlib.Core.Path.{_≡_, refl}
+use mathlib.Core.Bool.{false, _||_}
 use mathlib.Core.List.{List, _++_, map, append-assoc}
 use Prim.Native.Nat.{ℕ, suc, _+_, _/_, _%_, _<_}
 use native.Mathlib.Numerals.{add-one}
 use native.Mathlib.Omega.{arith}
+use borrow.Author.Tests.{lt-leb}
 use lib.ListN.{length, getD, take, drop, set, List·getD-map}
 use lib.Seq.{drop-cons, take-suc-set, drop-set-lt}
+use Rattle.katan.specs.Sizes.{laneCount}
 use Rattle.bench.specs.declared.Lane.{Lane}
 use Rattle.bench.specs.declared.Slot.{Slot}
-use Rattle.bench.specs.Checks.{emptyLane, laneFault, anyLaneFault}
-use Rattle.bench.specs.Bench.{emptySlot, slotView}
+use Rattle.bench.specs.declared.Bench.{Bench}
+use Rattle.bench.specs.Checks.{LaneView, emptyLane, loadedLane, laneFault, anyLaneFault, isEmpty, readChecks, laneAnswer, readOutcome}
+use Rattle.bench.specs.Bench.{emptySlot, slotView, lanesOf, heldCheck, readOf}
 use Rattle.bench.specs.Steps.{stepSlots, movedSlots}
 use Rattle.bench.specs.inner.Slots.{stepSlot, movedSlot}
 
@@ -43,3 +46,15 @@ module _ (ss : List Slot) (i m : ℕ) (x : Slot) (h : i < length ss) where
 
 pub slot-at : (ss : List Slot) (i : ℕ) → getD (map slotView ss) i emptyLane ≡ slotView (getD ss i emptySlot)
 slot-at ss i = List·getD-map slotView ss i emptySlot
+
+-- ---- a read
+
+-- of a sound bench, it answers by the lane
+module _ (b : Bench) (i : ℕ) (sound : heldCheck b .fault ≡ false) (h : i < laneCount) where
+  as-seen : (x : LaneView) → getD (lanesOf b) i emptyLane ≡ x → readOf b i ≡ laneAnswer x
+  unfolding readOf readOutcome readChecks isEmpty laneAnswer
+  as-seen emptyLane e = rw (sound, lt-leb laneCount i h, e)
+  as-seen (loadedLane r) e = rw (sound, lt-leb laneCount i h, e)
+
+  pub read-of-lane : readOf b i ≡ laneAnswer (getD (lanesOf b) i emptyLane)
+  read-of-lane = as-seen (getD (lanesOf b) i emptyLane) refl

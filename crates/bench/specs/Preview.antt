@@ -13,7 +13,7 @@ use Rattle.bench.specs.declared.Link.{Link}
 use Rattle.bench.specs.Calls.{Call, arrival, again, Answer, stateAfter, answersTo}
 use Rattle.bench.specs.Checks.{LaneView}
 use Rattle.bench.specs.Model.{Model, freshModel, machineView, modelTransition}
-use Rattle.bench.specs.Bench.{emptySlot, slotView, arriveOf, State, freshState, benchTransition}
+use Rattle.bench.specs.Bench.{emptySlot, slotView, lanesOf, arriveOf, State, freshState, benchTransition}
 use Rattle.bench.specs.Claim.{benchAfter, benchAnswers, modelAfter, countedRecords, FollowsModel}
 
 -- ---- a preview
@@ -51,7 +51,7 @@ pub data EventAnswer : Type 0 where
 -- the bench and the link keep their contents
 unfoldable pub benchEvent : State → Event → State × EventAnswer
 benchEvent x (call c) = (benchTransition x c .0, answered (benchTransition x c .1))
-benchEvent x (preview s) = let p = previewOf (x .bench) (x .link) s in (x, previewed (p .answer) (map slotView (p .bench .slots)))
+benchEvent x (preview s) = let p = previewOf (x .bench) (x .link) s in (x, previewed (p .answer) (lanesOf (p .bench)))
 
 -- the reference model judges the record and steps a copy of its machines
 unfoldable pub modelEvent : ℕ → Model → Event → Model × EventAnswer

@@ -2,7 +2,7 @@
 -- Assumes nothing.
 use mathlib.Core.Path.{_≡_, sym, ap, _∙_}
 use mathlib.Core.Bool.{true, false}
-use mathlib.Core.List.{List, map}
+use mathlib.Core.List.{List}
 use Prim.Native.Nat.{ℕ}
 use borrow.Author.Tests.{eq-eqb, ne-eqb}
 use lib.ListN.{length}
@@ -11,8 +11,8 @@ use Rattle.bench_record.specs.Fields.{recordLength, decode}
 use Rattle.bench_record.specs.Checks.{fieldChecks}
 use Rattle.bench.specs.declared.Bench.{Bench}
 use Rattle.bench.specs.declared.Link.{Link}
-use Rattle.bench.specs.Checks.{benchCheck, Turn, turnChecks, turnOf, decision}
-use Rattle.bench.specs.Bench.{slotView, benchView}
+use Rattle.bench.specs.Checks.{Turn, turnChecks, turnOf, decision}
+use Rattle.bench.specs.Bench.{heldCheck, benchView}
 use Rattle.katan.proofs.Checked.{all-passed, no-fault-found, fault-found}
 use Rattle.bench.proofs.Turns.{turnOutcome, decision-parts, decided-1}
 
@@ -24,11 +24,11 @@ module _ (b : Bench) (l : Link) (s : List ℕ) where
   abbrev reply : Outcome Turn
   reply = value (turnOf (l .last) s)
 
-  pub refused-1 : benchCheck (b .variant) (map slotView (b .slots)) .fault ≡ true → refused 1 ≡ decision (benchView b l) s
+  pub refused-1 : heldCheck b .fault ≡ true → refused 1 ≡ decision (benchView b l) s
   unfolding benchView
   refused-1 e = sym (decided-1 (benchView b l) s e)
 
-  module _ (sound : benchCheck (b .variant) (map slotView (b .slots)) .fault ≡ false) where
+  module _ (sound : heldCheck b .fault ≡ false) where
     pub refused-2 : (length s ≡ recordLength → ⊥) → refused 2 ≡ decision (benchView b l) s
     unfolding benchView
     refused-2 h = sym (decision-parts (benchView b l) s ∙ rw (sound, ne-eqb (length s) recordLength h))

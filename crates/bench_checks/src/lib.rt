@@ -1,12 +1,12 @@
 // The checks of an arrival, in their order: the first fault found is answered.
 ghost use mathlib.Core.Path.{_≡_};
 ghost use Prim.Native.Nat.{ℕ};
-ghost use mathlib.Core.List.{List, [], _∷_, map};
+ghost use mathlib.Core.List.{List, [], _∷_};
 ghost use Rattle.katan.specs.Checks.{value, Check, checked};
 ghost use Rattle.katan.specs.Variant.{widthOf};
 ghost use Rattle.bench_record.specs.Fields.{decode};
 ghost use Rattle.bench.specs.Checks.{laneFault, anyLaneFault, benchCheck, turnChecks, turnOf, decision};
-ghost use Rattle.bench.specs.Bench.{laneView, slotView, benchView};
+ghost use Rattle.bench.specs.Bench.{laneView, lanesOf, benchView, heldCheck};
 ghost use Rattle.bench_fields.specs.Answers.{fieldOutcome};
 ghost use Rattle.bench_checks.specs.Decision.{decisionOutcome};
 use bench::Bench;
@@ -37,7 +37,7 @@ fn lane_fault(n: usize, lane: Lane) -> bool
 }
 
 fn any_lane_fault(bench: Bench, n: usize) -> bool
-    ensures { λ r. ⌜ ((v : ℕ) → n ≡ widthOf v → r ≡ anyLaneFault v (map slotView (bench .slots))) ⌝ }
+    ensures { λ r. ⌜ ((v : ℕ) → n ≡ widthOf v → r ≡ anyLaneFault v (lanesOf bench)) ⌝ }
 {
     let slots = bench.slots;
     let mut i: usize = 0;
@@ -64,7 +64,7 @@ pub fn bad_lane(variant: u8, lane: Lane) -> bool
 
 // Check 1: a bench that is passed in may hold anything.
 pub fn bad_bench(bench: Bench) -> bool
-    ensures { λ r. ⌜ r ≡ benchCheck (bench .variant) (map slotView (bench .slots)) .fault ⌝ }
+    ensures { λ r. ⌜ r ≡ heldCheck bench .fault ⌝ }
 {
     match katan_variants::row_of(bench.variant) {
         RowAnswer::Found(row) => any_lane_fault(bench, row.n),

@@ -1,2 +1,2 @@
-pub mod Turns
+mod Turns
 pub mod Theorems

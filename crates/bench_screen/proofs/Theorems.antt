@@ -6,10 +6,9 @@ use mathlib.Core.List.{List}
 use Prim.Native.Nat.{ℕ, _<_}
 use native.Mathlib.Omega.{arith}
 use lib.Dec.{eqb}
-use lib.ListN.{getD, List·getD-map}
-use borrow.Author.Tests.{eq-eqb, ne-eqb, lt-leb}
+use lib.ListN.{length, getD}
+use borrow.Author.Tests.{eq-eqb, ne-eqb}
 use Rattle.katan.specs.Bit.{bit}
-use Rattle.katan.specs.Checks.{value}
 use Rattle.katan.specs.Machine.{registersAt}
 use Rattle.katan.specs.Sizes.{laneCount}
 use Rattle.katan.proofs.Bits.{bit-lt, bit-from-bits}
@@ -17,15 +16,15 @@ use Rattle.katan.proofs.Tables.{entry}
 use Rattle.bench.specs.declared.Reading.{Reading}
 use Rattle.bench.specs.declared.Bench.{Bench}
 use Rattle.bench.specs.Machine.{Machine, empty, loaded}
-use Rattle.bench.specs.Calls.{Call}
-use Rattle.bench.specs.Checks.{LaneView, emptyLane, loadedLane, benchCheck, isEmpty, readChecks, laneAnswer, readOutcome}
+use Rattle.bench.specs.Checks.{LaneView, emptyLane, loadedLane, benchCheck, laneAnswer}
 use Rattle.bench.specs.Model.{machineView}
 use Rattle.bench.specs.Bench.{lanesOf, heldCheck, readOf}
 use Rattle.bench.specs.Claim.{benchAfter, modelAfter, machineAfter}
+use Rattle.bench.proofs.Loops.{slot-at, read-of-lane}
 use Rattle.bench.proofs.Follow.{same-views}
 use Rattle.bench.proofs.Lists.{still-kept, every-list}
-use Rattle.bench_screen.specs.Screen.{numberShown, bitShown, laneNumber, laneBit, numbersShown, maskShown, screenAnswer}
-use Rattle.bench_screen.specs.Claim.{shownBit, shownNumber, AsSingleRead, SingleReads, machineLanes, EveryScreen}
+use Rattle.bench_screen.specs.Screen.{numberShown, bitShown, laneNumber, laneBit, numbersShown, maskShown, screenAnswer, screenNumbers}
+use Rattle.bench_screen.specs.Claim.{Shows, AsSingleRead, SingleReads, AsMachine, ScreenAfterEveryList}
 use Rattle.bench_screen.proofs.Turns.{lane-bit-lt}
 
 -- ---- lane by lane
@@ -39,81 +38,78 @@ module _ (m : ℕ) (lanes : List LaneView) (i : ℕ) (h : i < laneCount) where
   unfolding numbersShown
   its-number = entry (laneNumber m lanes) laneCount i 0 h
 
+-- a call with no fault is answered, and shows each lane
+module _ (b : Bench) (sound : heldCheck b .fault ≡ false) (m : ℕ) (some : 0 < m) (out : List ℕ) (len : length out ≡ laneCount) where
+  none : eqb m 0 ≡ false
+  none = ne-eqb m 0 (λ e. omega arith)
+
+  shows : (P : (i shown number : ℕ) → Type 0)
+      → ((i : ℕ) → i < laneCount → (shown number : ℕ) → shown ≡ bitShown (bit m i) (getD (lanesOf b) i emptyLane) → number ≡ numberShown (bit m i) (getD (lanesOf b) i emptyLane) → P i shown number)
+      → Shows b m out P
+  unfolding screenAnswer
+  shows P f =
+      record {
+        mask = maskShown m (lanesOf b);
+        answered = rw (sound, eq-eqb _ _ len, none);
+        each =
+            λ i h.
+            f i h (bit (maskShown m (lanesOf b)) i) (getD (screenNumbers b m out) i 0) (its-bit m (lanesOf b) i h)
+            (rw (sound, eq-eqb _ _ len, none) (its-number m (lanesOf b) i h));
+      }
+
 -- ---- beside the single reads
 
-module _ (b : Bench) (sound : heldCheck b .fault ≡ false) (i : ℕ) (h : i < laneCount) where
-  as-seen : (x : LaneView) → getD (lanesOf b) i emptyLane ≡ x → readOf b i ≡ laneAnswer x
-  unfolding readOf readOutcome readChecks isEmpty laneAnswer
-  as-seen emptyLane e = rw (sound, lt-leb laneCount i h, e)
-  as-seen (loadedLane r) e = rw (sound, lt-leb laneCount i h, e)
-
-  module _ (m : ℕ) where
-    beside : (x : LaneView) → readOf b i ≡ laneAnswer x → shownBit b m i ≡ bitShown (bit m i) x → shownNumber b m i ≡ numberShown (bit m i) x → AsSingleRead b m i
-    unfolding laneAnswer bitShown numberShown
-    beside emptyLane e f g =
-        record {
-          shown = (λ p. absurd (omega (arith, f, p)), λ p. let a = p .1 .answer in let z : _≡_ {A = ℕ} 0 1 = cc in absurd (omega arith));
-          its-registers = λ r p a. absurd (omega (arith, f, p));
-          left-out = λ p. (λ q. e, λ q. f);
-          others = λ p. (f, g);
-        }
-    beside (loadedLane r) e f g =
-        let two = bit-lt m i in
-        record {
-          shown = (λ p. (sym f ∙ p, record { reading = r; answer = e }), λ p. f ∙ p .0);
-          its-registers = λ s p a. let q : r ≡ s = cc in g ∙ rw (eq-eqb _ _ (sym f ∙ p)) (ap (λ (y : Reading). y .registers) q);
-          left-out = λ p. (λ q. absurd (omega (arith, f, p, q)), λ a. let z : _≡_ {A = ℕ} 0 1 = cc in absurd (omega arith));
-          others = λ p. (omega (arith, f, two, p), g ∙ rw (ne-eqb _ _ (λ q. p (f ∙ q))));
-        }
+module _ (b : Bench) (m i : ℕ) where
+  beside : (x : LaneView) → readOf b i ≡ laneAnswer x → (shown number : ℕ) → shown ≡ bitShown (bit m i) x → number ≡ numberShown (bit m i) x → AsSingleRead b m i shown number
+  unfolding laneAnswer bitShown numberShown
+  beside emptyLane e shown number f g =
+      record {
+        is-shown = (λ p. absurd (omega (arith, f, p)), λ p. let a = p .1 .answer in let z : _≡_ {A = ℕ} 0 1 = cc in absurd (omega arith));
+        its-registers = λ r p a. absurd (omega (arith, f, p));
+        left-out = λ p. (λ q. e, λ q. f);
+        others = λ p. (f, g);
+      }
+  beside (loadedLane r) e shown number f g =
+      let two = bit-lt m i in
+      record {
+        is-shown = (λ p. (sym f ∙ p, record { reading = r; answer = e }), λ p. f ∙ p .0);
+        its-registers = λ s p a. let q : r ≡ s = cc in g ∙ rw (eq-eqb _ _ (sym f ∙ p)) (ap (λ (y : Reading). y .registers) q);
+        left-out = λ p. (λ q. absurd (omega (arith, f, p, q)), λ a. let z : _≡_ {A = ℕ} 0 1 = cc in absurd (omega arith));
+        others = λ p. (omega (arith, f, two, p), g ∙ rw (ne-eqb _ _ (λ q. p (f ∙ q))));
+      }
 
 -- THEOREM: for every bench that passes check 1, every mask and lane, the screen shows what the single read answers
 pub single-reads : SingleReads
-single-reads b sound m i h =
-    let x = getD (lanesOf b) i emptyLane in
-    beside b sound i h m x (as-seen b sound i h x refl) (its-bit m (lanesOf b) i h) (its-number m (lanesOf b) i h)
+single-reads b sound m some out len = shows b sound m some out len (AsSingleRead b m) (λ i h. beside b m i (getD (lanesOf b) i emptyLane) (read-of-lane b i sound h))
 
 -- ---- after every list of calls
 
-module _ (v : ℕ) (calls : List Call) (m i : ℕ) (h : i < laneCount) (named : bit m i ≡ 1) where
-  abbrev lanes : List LaneView
-  lanes = machineLanes v calls
-
-  machine-at : getD lanes i emptyLane ≡ machineView v (machineAfter v calls i)
-  unfolding machineView
-  machine-at = List·getD-map (machineView v) (modelAfter v calls .machines) i empty
-
-  of-machine : (x : Machine) → machineAfter v calls i ≡ x → getD lanes i emptyLane ≡ machineView v x
-  of-machine x e = machine-at ∙ ap (machineView v) e
-
-  of-empty : machineAfter v calls i ≡ empty → bit (maskShown m lanes) i ≡ 0
-  unfolding machineView bitShown
-  of-empty e = its-bit m lanes i h ∙ ap (bitShown (bit m i)) (of-machine empty e)
-
-  of-loaded : (key block q p : ℕ) → machineAfter v calls i ≡ loaded key block q p
-      → (bit (maskShown m lanes) i ≡ 1) × (getD (numbersShown m lanes) i 0 ≡ registersAt v key q block p)
+module _ (v : ℕ) where
+  of-machine : (x : Machine) (named shown number : ℕ) → shown ≡ bitShown named (machineView v x) → number ≡ numberShown named (machineView v x) → AsMachine v x named shown number
   unfolding machineView bitShown numberShown
-  of-loaded key block q p e =
-      let x = of-machine (loaded key block q p) e in (
-        its-bit m lanes i h ∙ ap (bitShown (bit m i)) x ∙ named,
-        its-number m lanes i h ∙ ap (numberShown (bit m i)) x ∙ rw (eq-eqb _ _ named),
-      )
-
-  only-empty : (x : Machine) → machineAfter v calls i ≡ x → bit (maskShown m lanes) i ≡ 0 → machineAfter v calls i ≡ empty
-  only-empty empty e z = e
-  only-empty (loaded key block q p) e z = absurd (omega (arith, of-loaded key block q p e .0, z))
+  of-machine empty named shown number f g =
+      record {
+        left-out = λ n. (λ z. refl, λ e. f);
+        its-registers = λ n key block q p e. let z : _≡_ {A = ℕ} 0 1 = cc in absurd (omega arith);
+      }
+  of-machine (loaded key block q p) named shown number f g =
+      record {
+        left-out = λ n. (λ z. absurd (omega (arith, f, n, z)), λ e. let z : _≡_ {A = ℕ} 0 1 = cc in absurd (omega arith));
+        its-registers =
+            λ n key′ block′ q′ p′ e.
+            let same : registersAt v key q block p ≡ registersAt v key′ q′ block′ p′ = cc in
+            (f ∙ n, g ∙ rw (eq-eqb _ _ n) same);
+      }
 
 -- THEOREM: after every list of calls the screen shows the registers of the reference model's machines, and leaves out exactly the empty ones
-pub every-screen : EveryScreen
-unfolding screenAnswer
-every-screen v least most calls m some out len =
+pub screen-after-every-list : ScreenAfterEveryList
+screen-after-every-list v least most calls m some out len =
     let k = still-kept v calls in
-    let views = same-views v (benchAfter v calls .bench .slots) (modelAfter v calls .machines) (k .lanes) in
-    let sound : heldCheck (benchAfter v calls .bench) .fault ≡ false
+    let b = benchAfter v calls .bench in
+    let views = same-views v (b .slots) (modelAfter v calls .machines) (k .lanes) in
+    let sound : heldCheck b .fault ≡ false
     = ap₂ (λ (w : ℕ) (xs : List LaneView). benchCheck w xs .fault) (k .variant) views ∙ every-list v least most calls .no-check-1 in
-    let none : eqb m 0 ≡ false = ne-eqb m 0 (λ e. omega arith) in
-    record {
-      same-mask = rw (sound, eq-eqb _ _ len, none) (ap (λ (xs : List LaneView). value (maskShown m xs)) views);
-      same-numbers = rw (sound, eq-eqb _ _ len, none) (ap (numbersShown m) views);
-      left-out = λ i h named. (only-empty v calls m i h named (machineAfter v calls i) refl, of-empty v calls m i h named);
-      its-registers = λ i h named. of-loaded v calls m i h named;
-    }
+    shows b sound m some out len (λ i. AsMachine v (machineAfter v calls i) (bit m i))
+    (λ i h shown number f g.
+    let x = slot-at (b .slots) i ∙ every-list v least most calls .same-lanes i h in
+    of-machine v (machineAfter v calls i) (bit m i) shown number (f ∙ ap (bitShown (bit m i)) x) (g ∙ ap (numberShown (bit m i)) x))

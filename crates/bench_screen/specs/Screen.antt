@@ -21,7 +21,7 @@ unfoldable pub numberShown : ℕ → LaneView → ℕ
 numberShown b emptyLane = 0
 numberShown b (loadedLane r) = pick (eqb b 1) (r .registers) 0
 
--- its bit of the mask of named loaded lanes
+-- and its bit of the mask of named loaded lanes
 unfoldable pub bitShown : ℕ → LaneView → ℕ
 bitShown b emptyLane = 0
 bitShown b (loadedLane r) = b
@@ -36,7 +36,7 @@ module _ (m : ℕ) (lanes : List LaneView) where
   abbrev pub laneBit : ℕ → ℕ
   laneBit i = bitShown (bit m i) (getD lanes i emptyLane)
 
-  -- the 64 numbers
+  -- a number for each lane
   unfoldable pub numbersShown : List ℕ
   numbersShown = tabulate laneNumber 0 laneCount
 

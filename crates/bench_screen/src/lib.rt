@@ -32,13 +32,14 @@ struct Seen {
     shown: u64,
 }
 
+// The registers of a loaded lane whose bit of the mask is 1.
 fn if_named(named: u64, registers: u64) -> u64
     ensures { λ r. ⌜ r ≡ pick (eqb named 1) registers 0 ⌝ }
 {
     if named == 1 { registers } else { 0 }
 }
 
-// `named` is the lane's bit of the mask.
+// One look at a lane; `named` is its bit of the mask.
 fn lane_seen(variant: u8, lane: Lane, named: u64) -> LaneSeen
     ensures { λ r. ⌜ (r .bad ≡ benchCheck variant (laneView lane ∷ []) .fault) × (r .number ≡ numberShown named (laneView lane))
         × (r .bit ≡ bitShown named (laneView lane)) ⌝ }
@@ -67,7 +68,7 @@ fn either(a: bool, b: bool) -> bool
     if a { true } else { b }
 }
 
-// The one pass. Its numbers are its own: a fault in the last lane is still to leave the caller's as they were.
+// The one pass over the bench. Its numbers are its own: a fault in the last lane must still leave the lent ones as they were.
 fn look(bench: Bench, mask: u64) -> Seen
     ensures { λ r. ⌜ (r .bad ≡ heldCheck bench .fault) × (r .numbers ≡ numbersShown mask (lanesOf bench)) × (r .shown ≡ maskShown mask (lanesOf bench)) ⌝ }
 {
@@ -93,7 +94,7 @@ fn look(bench: Bench, mask: u64) -> Seen
     }
 }
 
-// Fills the 64 lent numbers, and answers the mask of the named lanes that are loaded.
+// Fills the lent numbers, one for each lane, and answers the mask of the named lanes that are loaded.
 pub fn screen(bench: Bench, mask: u64, out: &mut [u64]) -> ScreenAnswer
     ensures { λ r. ⌜ screenOutcome r ≡ screenAnswer bench mask (now (out .entry)) ⌝ }
     ensures { λ r. ⌜ now (out .exit) ≡ screenNumbers bench mask (now (out .entry)) ⌝ }

@@ -1,6 +1,6 @@
 -- Check 1 of the bench that a record is sent to.
 -- Assumes nothing.
-use mathlib.Core.Path.{_≡_, refl, sym, ap, _∙_}
+use mathlib.Core.Path.{_≡_, refl, sym, ap}
 use mathlib.Core.Bool.{Bool, true, false}
 use mathlib.Core.List.{List}
 use Prim.Native.Nat.{ℕ}
@@ -25,8 +25,3 @@ found-by-itself b l sent = go (heldCheck b .fault) refl
     go : (t : Bool) → heldCheck b .fault ≡ t → _≡_ {A = Answer} (pick t (refused 1) (arriveOf b l sent .answer)) (arriveOf b l sent .answer)
     go true e = sym (refused-1 b l sent e)
     go false e = refl
-
--- 1, or else 2
-pub either : (t : Bool) → _≡_ {A = Answer} (pick t (refused 1) (refused 2)) (refused (pick t 1 2))
-either true = refl
-either false = refl

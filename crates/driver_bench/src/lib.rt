@@ -1,5 +1,5 @@
-// The calls of a driver that open a bench, and that send it a record or try one: numbers, and lent slices. Each returns 0 or document 01's number of the first fault found, and a refused call
-// leaves every lent output as it was, but for a preview's room.
+// The calls of a driver that open a bench, and that send it a record or try one: numbers, and lent slices. Each returns 0 or document 01's number of
+// the first fault found, and a refused call leaves every lent output as it was, but for a preview's room.
 ghost use mathlib.Core.Path.{_≡_};
 ghost use mathlib.Core.List.{[], _∷_};
 ghost use lib.ListN.{length};

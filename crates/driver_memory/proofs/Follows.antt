@@ -1,8 +1,9 @@
--- THEOREMS: a driver's memory is opened as the fresh bench and link, and its arrivals, reads and previews are those of a list.
+-- THEOREMS: a driver's memory is opened as the fresh bench and link, its arrivals, reads and previews are those of a list, and a screen is of the bench
+-- that it says.
 -- Assumes nothing.
 use mathlib.Core.Path.{_≡_, refl, sym, ap, _∙_}
 use mathlib.Core.Bool.{Bool, true, false, not}
-use mathlib.Core.List.{List, [], _∷_, map}
+use mathlib.Core.List.{List, [], _∷_}
 use Prim.Native.Nat.{ℕ, zero, suc, _≤_}
 use native.Mathlib.Omega.{arith}
 use lib.ListN.{length, getD, replicate, length-replicate}
@@ -11,14 +12,14 @@ use Rattle.katan.specs.Bit.{AreBytes}
 use Rattle.katan.specs.Checks.{Outcome, value, refused, checked, sizeCheck}
 use Rattle.katan.specs.Lent.{statusOf, lentAfter}
 use Rattle.katan.specs.Sizes.{laneCount}
-use Rattle.katan.proofs.Checked.{fault-first, fault-later, checked-append}
+use Rattle.katan.proofs.Checked.{fault-later, checked-append, check-twice}
 use Rattle.katan.proofs.Variants.{variant-sound}
 use Rattle.bench.specs.Calls.{Answer}
 use Rattle.bench_record.specs.Checks.{laneCheck}
 use Rattle.bench.specs.Checks.{emptyLane, emptyCheck, readChecks, Turn, counts, repeats, decision, laneAnswer, readOutcome}
-use Rattle.bench.specs.Bench.{emptySlot, freshBench, freshLink, slotView, benchView, heldCheck, countedEffect, effectAs, arriveOf, readOf}
+use Rattle.bench.specs.Bench.{emptySlot, freshBench, freshLink, lanesOf, benchView, heldCheck, countedEffect, effectAs, arriveOf, readOf}
 use Rattle.driver_layout.specs.Layout.{benchLength, linkLength, benchIn, linkIn, benchBytes, linkBytes}
-use Rattle.driver_reads.specs.Calls.{readingWords, readCall}
+use Rattle.driver_reads.specs.Calls.{readCall}
 use Rattle.driver_bench.specs.Calls.{openCall, openedBench, openedLink, arrivalWords, ifCounted, arriveEffect, arriveChecks, arriveCall, previewCall}
 use Rattle.driver_layout.specs.ReadBack.{SlotsFit, BenchFits, LinkFits}
 use Rattle.driver_layout.proofs.ReadBack.{bench-read-back, link-read-back}
@@ -98,20 +99,14 @@ every-arrival bench link sent answer n m k f g h = arrives bench link sent answe
 
 -- ---- a read
 
-read-refused : (bench : List ℕ) (i : ℕ) → heldCheck (benchIn bench) .fault ≡ true → readOf (benchIn bench) i ≡ refused 1
-unfolding readOf readOutcome readChecks
-read-refused bench i e =
-    let lane = getD (map slotView (benchIn bench .slots)) i emptyLane in
-    fault-first (heldCheck (benchIn bench)) (laneCheck i ∷ emptyCheck lane ∷ []) (laneAnswer lane) e
-
-same-read : (bench : List ℕ) (i : ℕ) (answer : List ℕ) → length bench ≡ benchLength → length answer ≡ readingWords → (t : Bool) → heldCheck (benchIn bench) .fault ≡ t
-    → readCall bench i answer ≡ readOf (benchIn bench) i
-unfolding readCall
-same-read bench i answer n k true e = rw (eq-eqb _ _ n, e) (sym (read-refused bench i e))
-same-read bench i answer n k false e = rw (eq-eqb _ _ n, e, eq-eqb _ _ k)
-
+-- it looks for 1 once more
 pub every-read : EveryRead
-every-read bench i answer n k = same-read bench i answer n k (heldCheck (benchIn bench) .fault) refl
+unfolding readCall readOf readOutcome readChecks
+every-read bench i answer n k =
+    let lane = getD (lanesOf (benchIn bench)) i emptyLane in
+    rw (eq-eqb _ _ n, eq-eqb _ _ k) (check-twice (heldCheck (benchIn bench)) (laneCheck i ∷ emptyCheck lane ∷ []) (laneAnswer lane))
+
+-- ---- a screen
 
 pub every-screen : EveryScreen
 every-screen bench m out shown n k = record { same-mask = as-screen bench m out shown n k; same-numbers = as-numbers bench m out shown n k }

@@ -10,12 +10,12 @@ use Rattle.bench.specs.declared.Bench.{Bench}
 use Rattle.bench.specs.declared.Link.{Link}
 use Rattle.bench.specs.Calls.{done, again, at, Answer, stateAfter, answersTo}
 use Rattle.bench.specs.Checks.{LaneView}
-use Rattle.bench.specs.Bench.{freshBench, freshLink, emptySlot, slotView, State, freshState, benchTransition}
+use Rattle.bench.specs.Bench.{freshBench, freshLink, emptySlot, slotView, lanesOf, State, freshState, benchTransition}
 use Rattle.bench.specs.Claim.{benchAfter}
 use Rattle.bench.specs.Preview.{previewOf, EventAnswer, answered, previewed, benchEvent, callsOf}
 use Rattle.bench.proofs.Preview.{every-list-with-previews}
 use Rattle.bench_screen.specs.Screen.{screenAnswer, screenNumbers}
-use Rattle.bench_screen.proofs.Theorems.{every-screen as shows-machines}
+use Rattle.bench_screen.proofs.Theorems.{screen-after-every-list}
 use Rattle.driver_layout.specs.Layout.{benchLength, linkLength, benchIn, linkIn}
 use Rattle.driver_layout.specs.ReadBack.{BenchFits, LinkFits}
 use Rattle.driver_layout.proofs.ReadBack.{length-bench, length-link}
@@ -87,7 +87,7 @@ module _ (m : Memory) (k : Sound m) where
       record {
         return =
             ap₂ (λ (x : Answer) (lanes : List LaneView). returnedAs (previewed x lanes) answer) (p .same-call ∙ a .same-answer)
-            (ap lanesIn (p .same-memory) ∙ ap (λ (b : Bench). map slotView (b .slots)) (a .same-bench));
+            (ap lanesIn (p .same-memory) ∙ ap lanesOf (a .same-bench));
         state = refl;
         next = k;
       }
@@ -187,8 +187,8 @@ pub every-screen-in-memory : EveryScreenInMemory
 every-screen-in-memory v least most before n m calls w mask some out shown len k =
     let e = ap (λ (x : State). x .bench) (run-state v least most before n m calls w) in
     let s = every-screen (memoryAfter v before calls .bench) mask out shown (run v least most before n m calls w .sound .bench-size) k in
-    let l = shows-machines v least most (callsOf (map eventOf calls)) mask some out len in
     record {
-      same-mask = s .same-mask ∙ ap (λ (b : Bench). screenAnswer b mask out) e ∙ l .same-mask;
-      same-numbers = s .same-numbers ∙ ap (λ (b : Bench). screenNumbers b mask out) e ∙ l .same-numbers;
+      same-mask = s .same-mask ∙ ap (λ (b : Bench). screenAnswer b mask out) e;
+      same-numbers = s .same-numbers ∙ ap (λ (b : Bench). screenNumbers b mask out) e;
+      shows = screen-after-every-list v least most (callsOf (map eventOf calls)) mask some out len;
     }

@@ -37,12 +37,12 @@ EveryArrival =
 abbrev pub EveryRead : Type 0
 EveryRead = (bench : List ℕ) (i : ℕ) (answer : List ℕ) → length bench ≡ benchLength → length answer ≡ readingWords → readCall bench i answer ≡ readOf (benchIn bench) i
 
--- a screen's check 1 and 2 of the numbers are its own
+-- a screen shows the bench that the memory says, with its status, its mask and its numbers
 pub record Screens (bench : List ℕ) (m : ℕ) (out shown : List ℕ) : Type 0 where
   pub same-mask : screenCall bench m out shown ≡ screenAnswer (benchIn bench) m out
   pub same-numbers : screenedNumbers bench m out shown ≡ screenNumbers (benchIn bench) m out
 
--- numbers of any length
+-- an output of any length
 abbrev pub EveryScreen : Type 0
 EveryScreen = (bench : List ℕ) (m : ℕ) (out shown : List ℕ) → length bench ≡ benchLength → length shown ≡ shownWords → Screens bench m out shown
 

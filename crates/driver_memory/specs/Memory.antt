@@ -7,16 +7,16 @@ use mathlib.Core.Path.{_≡_}
 use mathlib.Core.List.{List, [], _∷_, map, zipWith}
 use lib.ListN.{length, getD}
 use Rattle.katan.specs.Bit.{AreBytes}
-use Rattle.katan.specs.Checks.{value}
 use Rattle.katan.specs.Lent.{statusOf, lentAfter}
 use Rattle.katan.specs.Sizes.{laneCount}
 use Rattle.bench.specs.Calls.{arrival, reading, stateAfter, answersTo}
 use Rattle.bench.specs.Checks.{LaneView}
 use Rattle.bench.specs.Model.{machineView}
 use Rattle.bench.specs.Bench.{emptySlot, slotView, lanesOf}
-use Rattle.bench.specs.Claim.{machineAfter}
+use Rattle.bench.specs.Claim.{benchAfter, machineAfter}
 use Rattle.bench.specs.Preview.{Event, call, preview as previewEvent, EventAnswer, answered, previewed, callsOf, modelEventAnswers}
-use Rattle.bench_screen.specs.Claim.{shownMask, shownNumbers}
+use Rattle.bench_screen.specs.Screen.{screenAnswer, screenNumbers}
+use Rattle.bench_screen.specs.Claim.{ShowsMachines}
 use Rattle.driver_layout.specs.Layout.{benchLength, linkLength, benchIn}
 use Rattle.driver_reads.specs.Calls.{readingWords, responseWords, readCall, shownWords, screenCall, screenedNumbers}
 use Rattle.driver_bench.specs.Calls.{openedBench, openedLink, arrivalWords, arriveCall, arrivedBench, arrivedLink, arrivedAnswer, previewCall, previewedAnswer, previewedRoom}
@@ -133,14 +133,16 @@ EveryListInMemory =
 
 -- ---- a screen after the list, which is lent the memory to read only
 
-pub record ShowsMachinesInMemory (v : ℕ) (before : Memory) (calls : List DriverCall) (m : ℕ) (out shown : List ℕ) : Type 0 where
-  -- it is answered, with what the screen shows of the reference model's machines: bench_screen's claim says lane by lane what that is
-  pub same-mask : screenCall (memoryAfter v before calls .bench) m out shown ≡ value (shownMask v (callsOf (map eventOf calls)) m)
-  pub same-numbers : screenedNumbers (memoryAfter v before calls .bench) m out shown ≡ shownNumbers v (callsOf (map eventOf calls)) m
+pub record ScreenInMemory (v : ℕ) (before : Memory) (calls : List DriverCall) (m : ℕ) (out shown : List ℕ) : Type 0 where
+  -- it is the screen of the bench that demand 3 speaks of
+  pub same-mask : screenCall (memoryAfter v before calls .bench) m out shown ≡ screenAnswer (benchAfter v (callsOf (map eventOf calls)) .bench) m out
+  pub same-numbers : screenedNumbers (memoryAfter v before calls .bench) m out shown ≡ screenNumbers (benchAfter v (callsOf (map eventOf calls)) .bench) m out
+  -- and shows the reference model's machines
+  pub shows : ShowsMachines v (callsOf (map eventOf calls)) m out
 
--- for every variant and every list, every mask but 0, and outputs of 64 words and of one
+-- for every variant and every list, every mask but 0, an output of a number for each lane and one word for the mask
 abbrev pub EveryScreenInMemory : Type 0
 EveryScreenInMemory =
     (v : ℕ) → 1 ≤ v → v ≤ 6 → (before : Memory) → length (before .bench) ≡ benchLength → length (before .link) ≡ linkLength
     → (calls : List DriverCall) → WellLent calls
-    → (m : ℕ) → 0 < m → (out shown : List ℕ) → length out ≡ laneCount → length shown ≡ shownWords → ShowsMachinesInMemory v before calls m out shown
+    → (m : ℕ) → 0 < m → (out shown : List ℕ) → length out ≡ laneCount → length shown ≡ shownWords → ScreenInMemory v before calls m out shown

@@ -1,38 +1,33 @@
--- What a screen answers whose lengths are right, and one that is lent other memory than one word for the mask.
+-- What a screen answers that is lent a bench of the right length, with one word for the mask and with other memory for it.
 -- Assumes nothing.
-use mathlib.Core.Path.{_≡_, refl, sym, ap, _∙_}
-use mathlib.Core.Bool.{Bool, true, false}
-use mathlib.Core.List.{List}
+use mathlib.Core.Path.{_≡_, sym, ap, _∙_}
+use mathlib.Core.List.{List, [], _∷_}
 use Prim.Native.Nat.{ℕ}
 use lib.ListN.{length}
 use borrow.Author.Tests.{eq-eqb, ne-eqb}
 use Rattle.katan.specs.Bit.{pick}
-use Rattle.katan.specs.Checks.{Outcome, refused, sizeCheck}
+use Rattle.katan.specs.Checks.{Outcome, value, refused, sizeCheck}
 use Rattle.katan.specs.Lent.{statusOf, lentAfter}
 use Rattle.katan.specs.Sizes.{laneCount}
+use Rattle.katan.proofs.Checked.{check-twice}
 use Rattle.bench.specs.declared.Bench.{Bench}
 use Rattle.bench.specs.Bench.{lanesOf, heldCheck}
-use Rattle.bench_screen.specs.Screen.{numbersShown, screenAnswer, screenNumbers}
+use Rattle.bench_screen.specs.Screen.{numbersShown, maskShown, maskCheck, screenAnswer, screenNumbers}
 use Rattle.driver_layout.specs.Layout.{benchLength, benchIn}
 use Rattle.driver_reads.specs.Calls.{shownWords, shownWord, screenCall, screenedNumbers}
-use Rattle.driver_reads.proofs.Held.{same-answer}
-
--- 1, or else 2 of either output
-one-or-two : (bench out : Bool) → _≡_ {A = Outcome ℕ} (pick bench (refused 1) (pick out (refused 2) (refused 2))) (refused (pick bench 1 2))
-one-or-two true out = refl
-one-or-two false true = refl
-one-or-two false false = refl
+use Rattle.driver_reads.proofs.Held.{either, same-answer}
 
 module _ (bench : List ℕ) (m : ℕ) (out shown : List ℕ) (n : length bench ≡ benchLength) where
-  -- 2, unless the bench gets 1, whatever the numbers' length
+  -- 2, unless the bench gets 1
   pub other-length : (length shown ≡ shownWords → ⊥) → screenCall bench m out shown ≡ refused (pick (heldCheck (benchIn bench) .fault) 1 2)
   unfolding screenCall
-  other-length k = rw (eq-eqb _ _ n, ne-eqb _ _ k) (one-or-two (heldCheck (benchIn bench) .fault) (sizeCheck laneCount out .fault))
+  other-length k = rw (eq-eqb _ _ n, ne-eqb _ _ k) (either (heldCheck (benchIn bench) .fault))
 
   module _ (k : length shown ≡ shownWords) where
+    -- the screen finds 1 by itself
     pub as-screen : screenCall bench m out shown ≡ screenAnswer (benchIn bench) m out
     unfolding screenCall screenAnswer
-    as-screen = rw (eq-eqb _ _ n, eq-eqb _ _ k)
+    as-screen = rw (eq-eqb _ _ n, eq-eqb _ _ k) (check-twice (heldCheck (benchIn bench)) (sizeCheck laneCount out ∷ maskCheck m ∷ []) (value (maskShown m (lanesOf (benchIn bench)))))
 
     pub as-numbers : screenedNumbers bench m out shown ≡ screenNumbers (benchIn bench) m out
     as-numbers = ap (λ (x : Outcome ℕ). lentAfter (λ y. numbersShown m (lanesOf (benchIn bench))) x out) as-screen

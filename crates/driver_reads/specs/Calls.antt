@@ -3,25 +3,24 @@
 -- Assumes nothing.
 use Prim.Native.Nat.{ℕ}
 use mathlib.Core.List.{List, [], _∷_}
-use Rattle.katan.specs.Checks.{Outcome, value, checked, sizeCheck}
+use Rattle.katan.specs.Checks.{Outcome, checked, sizeCheck}
 use Rattle.katan.specs.Lent.{lentAfter}
-use Rattle.katan.specs.Sizes.{laneCount}
 use Rattle.bench.specs.Calls.{Response, done, again, at, Answer}
 use Rattle.bench.specs.Bench.{lanesOf, heldCheck, readOf}
-use Rattle.bench_screen.specs.Screen.{numbersShown, maskShown, maskCheck}
+use Rattle.bench_screen.specs.Screen.{numbersShown, screenAnswer}
 use Rattle.driver_layout.specs.Layout.{benchLength, benchIn}
-
--- ---- a read
-
--- the words lent for its answer
-abbrev pub readingWords : ℕ
-readingWords = 2
 
 -- an answer in words, as a driver gets it: 'done' is 0, number, total; 'again' is 1, number, total; a read gives position, registers
 abbrev pub responseWords : Response → List ℕ
 responseWords (done n t) = 0 ∷ n ∷ t ∷ []
 responseWords (again n t) = 1 ∷ n ∷ t ∷ []
 responseWords (at r) = r .position .0 ∷ r .registers ∷ []
+
+-- ---- a read
+
+-- the words lent for its answer
+abbrev pub readingWords : ℕ
+readingWords = 2
 
 unfoldable pub readCall : (bench : List ℕ) → ℕ → (answer : List ℕ) → Answer
 readCall bench i answer =
@@ -42,8 +41,8 @@ module _ (bench : List ℕ) (m : ℕ) (out shown : List ℕ) where
   unfoldable pub screenCall : Outcome ℕ
   screenCall =
       checked
-      (sizeCheck benchLength bench ∷ heldCheck (benchIn bench) ∷ sizeCheck laneCount out ∷ sizeCheck shownWords shown ∷ maskCheck m ∷ [])
-      (value (maskShown m (lanesOf (benchIn bench))))
+      (sizeCheck benchLength bench ∷ heldCheck (benchIn bench) ∷ sizeCheck shownWords shown ∷ [])
+      (screenAnswer (benchIn bench) m out)
 
   abbrev pub screenedNumbers : List ℕ
   screenedNumbers = lentAfter (λ x. numbersShown m (lanesOf (benchIn bench))) screenCall out

@@ -12,8 +12,8 @@ use Rattle.katan.specs.Lent.{statusOf, lentAfter}
 use Rattle.katan.proofs.Checked.{fault-later}
 use Rattle.bench.specs.declared.Bench.{Bench}
 use Rattle.bench.specs.Calls.{Call}
-use Rattle.bench.specs.Claim.{benchAfter, modelAnswers}
-use Rattle.bench_replay.specs.Encoding.{answersBytes, callsIn}
+use Rattle.bench.specs.Claim.{benchAfter}
+use Rattle.bench_replay.specs.Encoding.{callsIn}
 use Rattle.bench_replay.specs.Replay.{ran, replayChecks, accepted, replayAnswer, replayOutput, callsRun}
 use Rattle.driver_layout.specs.Layout.{benchLength, benchBytes}
 use Rattle.driver_replay.specs.Calls.{replayCall, replayedBench, replayedAnswers}

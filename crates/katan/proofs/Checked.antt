@@ -55,3 +55,11 @@ module _ {A B : Type 0} (a : A) (r : Outcome B) (n : ℕ) where
   pub fault-found : (cs : List Check) → checked cs (value a) ≡ refused n → checked cs r ≡ refused n
   fault-found [] e = let z : _≡_ {A = ℕ} 0 1 = cc in absurd (omega arith)
   fault-found (c ∷ cs) e = same-fault (c .number) (checked cs (value a)) (checked cs r) (c .fault) (fault-found cs) e
+
+-- a check that is made twice in a row
+pub check-twice : {A : Type 0} (c : Check) (cs : List Check) (o : Outcome A) → checked (c ∷ []) (checked (c ∷ cs) o) ≡ checked (c ∷ cs) o
+check-twice c cs o = go (c .fault)
+  where
+    go : (t : Bool) → pick t (refused (c .number)) (pick t (refused (c .number)) (checked cs o)) ≡ pick t (refused (c .number)) (checked cs o)
+    go true = refl
+    go false = refl

@@ -108,7 +108,7 @@ impl Trial {
             self.beside_reads(bench, call.mask, &given);
         } else {
             // A read meets what is wrong with the bench, and nothing else.
-            let read = raw::read(bench, self.random.below(64), &mut [7; 2]);
+            let read = raw::read(bench, self.random.below(LANES as u64), &mut [7; 2]);
             let of_bench: &[u8] = match got {
                 1 => &[1],
                 _ if bench.len() != BENCH_LENGTH => &[2],
@@ -171,7 +171,7 @@ fn trial(test: &'static str) -> Trial {
 
 /// A mask of no lane, one, all, all but one, few, or about half.
 fn any_mask(random: &mut Random) -> u64 {
-    let one = 1 << random.below(64);
+    let one = 1 << random.below(LANES as u64);
     match random.below(8) {
         0 => 0,
         1 => one,
@@ -184,7 +184,7 @@ fn any_mask(random: &mut Random) -> u64 {
 
 /// A mask that names some lane.
 fn some_mask(random: &mut Random) -> u64 {
-    any_mask(random) | 1 << random.below(64)
+    any_mask(random) | 1 << random.below(LANES as u64)
 }
 
 /// Where a lane begins, by the header's layout.
@@ -249,7 +249,7 @@ fn wrapped(bench: &Bench, mask: u64, expected: Screen) {
                 let of_lane = names(lanes, lane).then_some(registers);
                 let lane = lane as u64;
                 assert_eq!(got.registers(lane), of_lane);
-                for other in [lane + 64, lane + (1 << 32), ALL - lane] {
+                for other in [lane + LANES as u64, lane + (1 << 32), ALL - lane] {
                     assert_eq!(got.registers(other), None);
                 }
             }
@@ -270,7 +270,7 @@ fn lists_of_records() {
         let mut positions = [0; 255];
         for position in 0..=254 {
             let random = &mut trial.random;
-            let lane = random.below(64) as u8;
+            let lane = random.below(LANES as u64) as u8;
             let (key, block) = match random.below(8) {
                 0 => ([0; 10], 0),
                 _ => (random.key(), random.bits(width(variant))),
@@ -325,7 +325,7 @@ fn masks_of_each_lane() {
         masks.extend([1 << lane, !(1 << lane), (1 << lane) - 1, ALL << lane]);
     }
     for variant in 1..=6 {
-        let one = 1 << trial.random.below(64);
+        let one = 1 << trial.random.below(LANES as u64);
         for loaded in [ALL, EVEN, !EVEN, one, 0] {
             let bench = memory(&mut trial.random, variant, loaded);
             for mask in &masks {
@@ -682,7 +682,7 @@ fn random_calls() {
                 _ => {}
             }
         }
-        if random.below(64) == 0 {
+        if random.below(LANES as u64) == 0 {
             bench = random.bytes(BENCH_LENGTH);
         }
         let bench_length = length(random, BENCH_LENGTH);

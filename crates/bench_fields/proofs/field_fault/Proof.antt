@@ -1,3 +1,5 @@
+-- `bench_fields::field_fault` meets its contract.
+-- Assumes nothing.
 use mathlib.Core.Path.{sym, ap, _∙_}
 use Rattle.katan.specs.Checks.{Outcome, value, checked}
 use Rattle.bench_record.specs.Fields.{Kind}

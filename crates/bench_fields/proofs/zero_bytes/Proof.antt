@@ -1,3 +1,5 @@
+-- `bench_fields::zero_bytes` meets its contract.
+-- Assumes nothing.
 use Rattle.bench_fields.proofs.Tests.{nonzero-true, nonzero-false}
 use Rattle.bench_fields.proofs.zero_bytes.Statement.{statement}
 use Rattle.bench_fields.proofs.zero_bytes.Tie as tie

@@ -1,3 +1,5 @@
+-- `bench_fresh::fresh_bench` meets its contract.
+-- Assumes nothing.
 use mathlib.Core.Path.{refl}
 use Rattle.bench_fresh.proofs.fresh_bench.Statement.{statement}
 use Rattle.bench_fresh.proofs.fresh_bench.Tie as tie

@@ -1,3 +1,5 @@
+-- `bench_fresh::fresh_link` meets its contract.
+-- Assumes nothing.
 use mathlib.Core.Path.{refl}
 use Rattle.bench_fresh.proofs.fresh_link.Statement.{statement}
 use Rattle.bench_fresh.proofs.fresh_link.Tie as tie

@@ -1,3 +1,5 @@
+-- `bench_fresh::open` meets its contract.
+-- Assumes nothing.
 use borrow.Author.Needs.{needs}
 use Rattle.bench_fresh.proofs.open.Statement.{statement}
 use Rattle.bench_fresh.proofs.open.Tie as tie

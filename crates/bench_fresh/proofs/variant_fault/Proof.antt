@@ -1,3 +1,5 @@
+-- `bench_fresh::variant_fault` meets its contract.
+-- Assumes nothing.
 use mathlib.Core.Path.{ap}
 use Rattle.katan.specs.Checks.{refused}
 use Rattle.katan.proofs.Variants.{row-found, row-refused}

@@ -3,15 +3,13 @@
 use Prim.Native.Nat.{ℕ}
 use mathlib.Core.Path.{_≡_}
 use mathlib.Core.Bool.{false}
-use mathlib.Core.List.{map}
 use Rattle.bench.specs.declared.Lane.{Lane}
 use Rattle.bench.specs.declared.Bench.{Bench}
-use Rattle.bench.specs.Checks.{benchCheck}
-use Rattle.bench.specs.Bench.{slotView}
+use Rattle.bench.specs.Bench.{heldCheck}
 use Rattle.bench_moves.specs.Moves.{badLane}
 
 abbrev pub SoundLane : ℕ → Lane → Type 0
 SoundLane v l = badLane v l ≡ false
 
 abbrev pub SoundBench : Bench → Type 0
-SoundBench b = benchCheck (b .variant) (map slotView (b .slots)) .fault ≡ false
+SoundBench b = heldCheck b .fault ≡ false

@@ -13,8 +13,9 @@ use Rattle.katan.specs.Lent.{fitted}
 use Rattle.driver_layout.specs.Layout.{benchLength, benchIn, linkIn}
 use Rattle.katan.proofs.Copies.{it-fits, no-fit}
 use Rattle.driver_layout.proofs.Fitted.{bench-read}
+use Rattle.driver_reads.proofs.Held.{either}
 use Rattle.driver_bench.specs.Calls.{arriveCall, previewCall}
-use Rattle.driver_bench.proofs.Held.{found-by-itself, either}
+use Rattle.driver_bench.proofs.Held.{found-by-itself}
 use Rattle.driver_bench.proofs.Previews.{copied, wrong-size, right-size, same-preview}
 use borrow.Author.Needs.{needs}
 use Rattle.driver_bench.proofs.preview.Statement.{statement}
