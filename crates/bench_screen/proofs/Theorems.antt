@@ -2,16 +2,18 @@
 -- Assumes nothing.
 use mathlib.Core.Path.{_≡_, refl, sym, ap, ap₂, _∙_}
 use mathlib.Core.Bool.{false}
-use mathlib.Core.List.{List}
+use mathlib.Core.List.{List, [], _∷_}
 use Prim.Native.Nat.{ℕ, _<_}
 use native.Mathlib.Omega.{arith}
 use lib.Dec.{eqb}
 use lib.ListN.{length, getD}
 use borrow.Author.Tests.{eq-eqb, ne-eqb}
 use Rattle.katan.specs.Bit.{bit}
+use Rattle.katan.specs.Checks.{value, checked, sizeCheck}
 use Rattle.katan.specs.Machine.{registersAt}
 use Rattle.katan.specs.Sizes.{laneCount}
 use Rattle.katan.proofs.Bits.{bit-lt, bit-from-bits}
+use Rattle.katan.proofs.Checked.{check-twice}
 use Rattle.katan.proofs.Tables.{entry}
 use Rattle.bench.specs.declared.Reading.{Reading}
 use Rattle.bench.specs.declared.Bench.{Bench}
@@ -23,7 +25,7 @@ use Rattle.bench.specs.Claim.{benchAfter, modelAfter, machineAfter}
 use Rattle.bench.proofs.Loops.{slot-at, read-of-lane}
 use Rattle.bench.proofs.Follow.{same-views}
 use Rattle.bench.proofs.Lists.{still-kept, every-list}
-use Rattle.bench_screen.specs.Screen.{numberShown, bitShown, laneNumber, laneBit, numbersShown, maskShown, screenAnswer, screenNumbers}
+use Rattle.bench_screen.specs.Screen.{numberShown, bitShown, laneNumber, laneBit, numbersShown, maskShown, maskCheck, screenAnswer, screenNumbers}
 use Rattle.bench_screen.specs.Claim.{Shows, AsSingleRead, SingleReads, AsMachine, ScreenAfterEveryList}
 use Rattle.bench_screen.proofs.Turns.{lane-bit-lt}
 
@@ -37,6 +39,11 @@ module _ (m : ℕ) (lanes : List LaneView) (i : ℕ) (h : i < laneCount) where
   its-number : getD (numbersShown m lanes) i 0 ≡ numberShown (bit m i) (getD lanes i emptyLane)
   unfolding numbersShown
   its-number = entry (laneNumber m lanes) laneCount i 0 h
+
+-- where 1 has been looked for before, nothing changes
+pub looked-before : (b : Bench) (m : ℕ) (out : List ℕ) → checked (heldCheck b ∷ []) (screenAnswer b m out) ≡ screenAnswer b m out
+unfolding screenAnswer
+looked-before b m out = check-twice (heldCheck b) (sizeCheck laneCount out ∷ maskCheck m ∷ []) (value (maskShown m (lanesOf b)))
 
 -- a call with no fault is answered, and shows each lane
 module _ (b : Bench) (sound : heldCheck b .fault ≡ false) (m : ℕ) (some : 0 < m) (out : List ℕ) (len : length out ≡ laneCount) where

@@ -1,18 +1,17 @@
 -- What a screen answers that is lent a bench of the right length, with one word for the mask and with other memory for it.
 -- Assumes nothing.
 use mathlib.Core.Path.{_≡_, sym, ap, _∙_}
-use mathlib.Core.List.{List, [], _∷_}
+use mathlib.Core.List.{List}
 use Prim.Native.Nat.{ℕ}
 use lib.ListN.{length}
 use borrow.Author.Tests.{eq-eqb, ne-eqb}
 use Rattle.katan.specs.Bit.{pick}
-use Rattle.katan.specs.Checks.{Outcome, value, refused, sizeCheck}
+use Rattle.katan.specs.Checks.{Outcome, refused}
 use Rattle.katan.specs.Lent.{statusOf, lentAfter}
-use Rattle.katan.specs.Sizes.{laneCount}
-use Rattle.katan.proofs.Checked.{check-twice}
 use Rattle.bench.specs.declared.Bench.{Bench}
 use Rattle.bench.specs.Bench.{lanesOf, heldCheck}
-use Rattle.bench_screen.specs.Screen.{numbersShown, maskShown, maskCheck, screenAnswer, screenNumbers}
+use Rattle.bench_screen.specs.Screen.{numbersShown, screenAnswer, screenNumbers}
+use Rattle.bench_screen.proofs.Theorems.{looked-before}
 use Rattle.driver_layout.specs.Layout.{benchLength, benchIn}
 use Rattle.driver_reads.specs.Calls.{shownWords, shownWord, screenCall, screenedNumbers}
 use Rattle.driver_reads.proofs.Held.{either, same-answer}
@@ -26,8 +25,8 @@ module _ (bench : List ℕ) (m : ℕ) (out shown : List ℕ) (n : length bench �
   module _ (k : length shown ≡ shownWords) where
     -- the screen finds 1 by itself
     pub as-screen : screenCall bench m out shown ≡ screenAnswer (benchIn bench) m out
-    unfolding screenCall screenAnswer
-    as-screen = rw (eq-eqb _ _ n, eq-eqb _ _ k) (check-twice (heldCheck (benchIn bench)) (sizeCheck laneCount out ∷ maskCheck m ∷ []) (value (maskShown m (lanesOf (benchIn bench)))))
+    unfolding screenCall
+    as-screen = rw (eq-eqb _ _ n, eq-eqb _ _ k) (looked-before (benchIn bench) m out)
 
     pub as-numbers : screenedNumbers bench m out shown ≡ screenNumbers (benchIn bench) m out
     as-numbers = ap (λ (x : Outcome ℕ). lentAfter (λ y. numbersShown m (lanesOf (benchIn bench))) x out) as-screen
