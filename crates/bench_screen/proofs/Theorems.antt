@@ -3,6 +3,7 @@
 use mathlib.Core.Path.{_≡_, refl, sym, ap, ap₂, _∙_}
 use mathlib.Core.Bool.{false}
 use mathlib.Core.List.{List, [], _∷_}
+use mathlib.Core.Logic.{⊎-elim}
 use Prim.Native.Nat.{ℕ, _<_}
 use native.Mathlib.Omega.{arith}
 use lib.Dec.{eqb}
@@ -92,20 +93,22 @@ single-reads b sound m some out len = shows b sound m some out len (AsSingleRead
 -- ---- after every list of calls
 
 module _ (v : ℕ) where
-  of-machine : (x : Machine) (named shown number : ℕ) → shown ≡ bitShown named (machineView v x) → number ≡ numberShown named (machineView v x) → AsMachine v x named shown number
+  of-machine : (x : Machine) (named shown number : ℕ) → named < 2 → shown ≡ bitShown named (machineView v x) → number ≡ numberShown named (machineView v x) → AsMachine v x named shown number
   unfolding machineView bitShown numberShown
-  of-machine empty named shown number f g =
+  of-machine empty named shown number two f g =
       record {
         left-out = λ n. (λ z. refl, λ e. f);
         its-registers = λ n key block q p e. let z : _≡_ {A = ℕ} 0 1 = cc in absurd (omega arith);
+        others = λ o. (f, g);
       }
-  of-machine (loaded key block q p) named shown number f g =
+  of-machine (loaded key block q p) named shown number two f g =
       record {
         left-out = λ n. (λ z. absurd (omega (arith, f, n, z)), λ e. let z : _≡_ {A = ℕ} 0 1 = cc in absurd (omega arith));
         its-registers =
             λ n key′ block′ q′ p′ e.
             let same : registersAt v key q block p ≡ registersAt v key′ q′ block′ p′ = cc in
             (f ∙ n, g ∙ rw (eq-eqb _ _ n) same);
+        others = ⊎-elim (λ n. (omega (arith, f, two, n), g ∙ rw (ne-eqb _ _ n))) (λ e. let z : _≡_ {A = ℕ} 0 1 = cc in absurd (omega arith));
       }
 
 -- THEOREM: after every list of calls the screen shows the registers of the reference model's machines, and leaves out exactly the empty ones
@@ -119,4 +122,4 @@ screen-after-every-list v least most calls m some out len =
     shows b sound m some out len (λ i. AsMachine v (machineAfter v calls i) (bit m i))
     (λ i h shown number f g.
     let x = slot-at (b .slots) i ∙ every-list v least most calls .same-lanes i h in
-    of-machine v (machineAfter v calls i) (bit m i) shown number (f ∙ ap (bitShown (bit m i)) x) (g ∙ ap (numberShown (bit m i)) x))
+    of-machine v (machineAfter v calls i) (bit m i) shown number (bit-lt m i) (f ∙ ap (bitShown (bit m i)) x) (g ∙ ap (numberShown (bit m i)) x))

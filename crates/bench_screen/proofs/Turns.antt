@@ -28,7 +28,7 @@ at-place f m ss i e g = g ∙ ap₂ f e (sym (slot-at ss i))
 
 -- ---- check 1
 
--- with what the variant's check finds in each lane's, which the lanes before have found already
+-- the check of each lane looks at the variant too, which was looked at before the first
 one-more : (unknown bad lane rest all : Bool) → (bad || (lane || rest)) ≡ (unknown || all) → ((bad || (unknown || (lane || false))) || rest) ≡ (unknown || all)
 one-more true true lane rest all e = refl
 one-more true false lane rest all e = refl

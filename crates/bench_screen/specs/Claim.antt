@@ -4,7 +4,7 @@ use Prim.Native.Nat.{ℕ, _<_, _≤_}
 use mathlib.Core.Path.{_≡_}
 use mathlib.Core.Bool.{false}
 use mathlib.Core.List.{List}
-use mathlib.Core.Logic.{_↔_}
+use mathlib.Core.Logic.{_↔_, _⊎_}
 use lib.ListN.{length, getD}
 use Rattle.katan.specs.Bit.{bit}
 use Rattle.katan.specs.Checks.{value, refused}
@@ -52,6 +52,8 @@ pub record AsMachine (v : ℕ) (x : Machine) (named shown number : ℕ) : Type 0
   pub left-out : named ≡ 1 → (shown ≡ 0) ↔ (x ≡ empty)
   -- and shows otherwise the registers of its machine
   pub its-registers : named ≡ 1 → (key block q p : ℕ) → x ≡ loaded key block q p → (shown ≡ 1) × (number ≡ registersAt v key q block p)
+  -- of a lane that is not named, or whose machine is empty, nothing
+  pub others : (named ≡ 1 → ⊥) ⊎ (x ≡ empty) → (shown ≡ 0) × (number ≡ 0)
 
 abbrev pub ShowsMachines : ℕ → List Call → ℕ → List ℕ → Type 0
 ShowsMachines v calls m out = Shows (benchAfter v calls .bench) m out (λ i. AsMachine v (machineAfter v calls i) (bit m i))

@@ -682,7 +682,7 @@ fn random_calls() {
                 _ => {}
             }
         }
-        if random.below(LANES as u64) == 0 {
+        if random.below(64) == 0 {
             bench = random.bytes(BENCH_LENGTH);
         }
         let bench_length = length(random, BENCH_LENGTH);

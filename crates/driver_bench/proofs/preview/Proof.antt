@@ -6,12 +6,12 @@ use Prim.Native.Nat.{ℕ}
 use lib.ListN.{length}
 use borrow.Author.Tests.{eq-eqb, ne-eqb}
 use Rattle.katan.specs.Bit.{pick}
+use Rattle.katan.specs.Lent.{fitted}
+use Rattle.katan.proofs.Copies.{it-fits, no-fit}
 use Rattle.bench.specs.declared.Bench.{Bench}
 use Rattle.bench.specs.Bench.{heldCheck}
 use Rattle.bench.specs.Preview.{previewOf}
-use Rattle.katan.specs.Lent.{fitted}
 use Rattle.driver_layout.specs.Layout.{benchLength, benchIn, linkIn}
-use Rattle.katan.proofs.Copies.{it-fits, no-fit}
 use Rattle.driver_layout.proofs.Fitted.{bench-read}
 use Rattle.driver_reads.proofs.Held.{either}
 use Rattle.driver_bench.specs.Calls.{arriveCall, previewCall}
