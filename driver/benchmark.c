@@ -170,6 +170,80 @@ static void origin_table(void) {
     }
 }
 
+// ---- smudged bits: 64 sheets run to the last position, beside the encryption of 64 blocks
+
+static uint64_t sheets[LANES][KATAN_SMUDGED_WORDS], found[LANES][KATAN_SMUDGED_WORDS], found_by_c[LANES][KATAN_SMUDGED_WORDS];
+static uint8_t key_ones[10 * LANES], key_zeros[10 * LANES];
+
+// Bits that can be read: all of them, or about nine tenths.
+static uint64_t legible(int smudged, int count) {
+    uint64_t kept = 0;
+    for (int i = 0; i < count; i++) kept |= (uint64_t)(!smudged || (random64() >> 32) % 10 != 0) << i;
+    return kept;
+}
+
+// The blocks and keys as sheets.
+static void fill_sheets(int variant, int smudged) {
+    for (int i = 0; i < LANES; i++) {
+        sheets[i][0] = blocks[i];
+        sheets[i][1] = ~blocks[i] & UINT64_MAX >> (64 - width(variant));
+        uint64_t kept = legible(smudged, width(variant));
+        sheets[i][0] &= kept;
+        sheets[i][1] &= kept;
+    }
+    for (size_t j = 0; j < sizeof keys; j++) {
+        uint8_t kept = legible(smudged, 8);
+        key_ones[j] = keys[j] & kept;
+        key_zeros[j] = ~keys[j] & kept;
+    }
+}
+
+static void our_smudged(int variant, int position) {
+    for (int i = 0; i < LANES; i++) {
+        uint8_t status = katan_smudged(variant, sheets[i][0], sheets[i][1], key_ones + 10 * i, 10, key_zeros + 10 * i, 10, position, found[i],
+                                       KATAN_SMUDGED_WORDS);
+        must(status == 0, "a sheet was refused");
+    }
+}
+
+static void plain_smudged(int variant, int position) {
+    for (int i = 0; i < LANES; i++) peer_smudged(variant, sheets[i], key_ones + 10 * i, key_zeros + 10 * i, position, found_by_c[i]);
+}
+
+static void smudged_table(void) {
+    printf("\nSmudged bits: a run to position %d, a tenth of block and key unknown\n", KATAN_ROUNDS);
+    printf("variant   times as long as katan_encrypt   times as fast as plain C   (ns)\n");
+    for (int variant = 1; variant <= 6; variant++) {
+        double ours = 1e18, plain = 1e18, encryption = 1e18;
+        fill(variant);
+        for (int smudged = 0; smudged < 2; smudged++) {
+            fill_sheets(variant, smudged);
+            for (int position = 0; position <= KATAN_ROUNDS; position++) {
+                our_smudged(variant, position);
+                plain_smudged(variant, position);
+                must(memcmp(found, found_by_c, sizeof found) == 0, "results differ");
+            }
+            our_blocks(variant, 0, keys, blocks, out, LANES);
+            for (int i = 0; !smudged && i < LANES; i++) {
+                must(found[i][0] == out[i] && found[i][1] == (~out[i] & UINT64_MAX >> (64 - width(variant))), "results differ");
+            }
+        }
+        for (int repeat = 0; repeat < REPEATS; repeat++) {
+            double a = nanoseconds();
+            our_smudged(variant, KATAN_ROUNDS);
+            double b = nanoseconds();
+            our_blocks(variant, 0, keys, blocks, out, LANES);
+            double c = nanoseconds();
+            plain_smudged(variant, KATAN_ROUNDS);
+            double d = nanoseconds();
+            if (b - a < ours) ours = b - a;
+            if (c - b < encryption) encryption = c - b;
+            if (d - c < plain) plain = d - c;
+        }
+        printf("%-9d %-32.2f %-26.2f %.0f\n", variant, ours / encryption, plain / ours, ours / LANES);
+    }
+}
+
 // ---- the bench: arrivals and reads
 
 static uint8_t bench[KATAN_BENCH_LENGTH], kept[KATAN_BENCH_LENGTH];
@@ -406,6 +480,7 @@ int main(void) {
     blocks_table(1);
     message_table(KATAN_LONGEST_DATA);
     origin_table();
+    smudged_table();
     bench_table();
     preview_table();
     screen_table();

@@ -1,7 +1,8 @@
 // A bench is opened and a lane loaded. The step is previewed, and the lane has not moved; a garbled copy of the step is previewed too. Then the
 // lane is stepped; the answer to the step is lost, so the step is sent once more: first garbled on its way, which gets 10, since a record of
 // that number has counted, then whole. The lane is read. A second lane is loaded, and both are on one screen, with an empty one between them. Then the
-// first load, the step and the read as one list of calls. At last the two bits that entered in the step's last round, followed back to the block.
+// first load, the step and the read as one list of calls. Then the two bits that entered in the step's last round, followed back to the block.
+// At last a sheet on which a digit of the block is smudged: what is known after the step, and with a second sheet.
 #include "katan_bench.h"
 
 #include <stdio.h>
@@ -104,6 +105,14 @@ static void screen(uint64_t mask) {
     printf("\n");
 }
 
+// What is known of the registers, the highest bit first.
+static void print_known(const uint64_t *known) {
+    for (int i = 32; i-- > 0;) {
+        putchar(known[0] >> i & 1 ? '1' : known[1] >> i & 1 ? '0' : '?');
+        if (i % 4 == 0) putchar(i == 0 ? '\n' : ' ');
+    }
+}
+
 int main(void) {
     uint8_t key[KATAN_KEY_LENGTH];
     uint8_t loading[KATAN_RECORD_LENGTH];
@@ -161,5 +170,24 @@ int main(void) {
     uint64_t bits[KATAN_ORIGIN_WORDS];
     accepted(katan_origin(KATAN32, key, sizeof key, 0, 4, bits, KATAN_ORIGIN_WORDS));
     printf("clock 4: fa %u, fb %u, from %u block bits\n", (unsigned)bits[0], (unsigned)bits[1], (unsigned)bits[2]);
+
+    // the block is 00?00000, with a digit that cannot be read; of the key all is known, and no bit of it as 0
+    uint64_t first = 0xff0fffff, known[KATAN_SMUDGED_WORDS];
+    accepted(katan_smudged(KATAN32, 0, first, key, sizeof key, zeros, sizeof zeros, 5, known, KATAN_SMUDGED_WORDS));
+    printf("smudged, at 5: ");
+    print_known(known);
+
+    // a second sheet has 0000000?: together they know the block. A third has 0000010?, and is of another block.
+    uint64_t last_smudged = 0xfffffff0, third = 0xfffffef0;
+    uint64_t block[KATAN_SMUDGED_WORDS];
+    uint8_t joined_key[KATAN_JOINED_KEY_LENGTH];
+    accepted(katan_join(KATAN32, 0, first, key, sizeof key, zeros, sizeof zeros, 0, last_smudged, key, sizeof key, zeros,
+                        sizeof zeros, block, KATAN_SMUDGED_WORDS, joined_key, sizeof joined_key));
+    accepted(katan_smudged(KATAN32, block[0], block[1], joined_key, KATAN_KEY_LENGTH, joined_key + KATAN_KEY_LENGTH,
+                           KATAN_KEY_LENGTH, 5, known, KATAN_SMUDGED_WORDS));
+    printf("joined, at 5:  ");
+    print_known(known);
+    printf("status %d\n", katan_join(KATAN32, 0, first, key, sizeof key, zeros, sizeof zeros, 0x100, third, key, sizeof key, zeros,
+                                     sizeof zeros, block, KATAN_SMUDGED_WORDS, joined_key, sizeof joined_key));
     return 0;
 }

@@ -40,7 +40,7 @@ extern "C" {
  * The version of this header: it rises with every new call, and with every change of a call's parameters, its numbers
  * or a layout. A driver compares it with katan_version(), which the archive was built with.
  */
-#define KATAN_VERSION 7
+#define KATAN_VERSION 8
 
 /* The variants. The number in a name is n, the bits of a block: 32, 48 or 64. */
 #define KATAN32 1
@@ -64,10 +64,11 @@ extern "C" {
                                    katan_preview) */
 #define KATAN_BAD_LANE 5        /* the lane is over 63 (katan_arrive, katan_preview, katan_read) */
 #define KATAN_BAD_POSITION 6    /* a load position is over 254, or a move count is 0 or over 254 (katan_arrive,
+                                   katan_preview); a position is over 254 (katan_smudged) */
+#define KATAN_BAD_BLOCK 7       /* a block, the start of a keystream, or either number of a smudged block is 2^n or more,
+                                   never so where n is 64 (katan_encrypt, katan_decrypt, both for many blocks,
+                                   katan_keystream, katan_origin, katan_smudged, katan_join, katan_arrive,
                                    katan_preview) */
-#define KATAN_BAD_BLOCK 7       /* a block, or the start of a keystream, is 2^n or more, never so where n is 64
-                                   (katan_encrypt, katan_decrypt, both for many blocks, katan_keystream, katan_origin,
-                                   katan_arrive, katan_preview) */
 #define KATAN_EMPTY_MASK 8      /* the mask of a move or clear, or of a screen, is 0 (katan_arrive, katan_preview,
                                    katan_screen) */
 #define KATAN_OUT_OF_TURN 9     /* the number is neither last + 1 nor a nonzero last; numbers do not wrap, and after
@@ -78,6 +79,8 @@ extern "C" {
 #define KATAN_BEYOND_END 14     /* the start plus the number of blocks exceeds 2^n, or the data is longer than
                                    KATAN_LONGEST_DATA (katan_keystream) */
 #define KATAN_BAD_CLOCK 15      /* the clock number is over KATAN_LAST_CLOCK (katan_origin) */
+#define KATAN_CONTRADICTION 16  /* a bit of block or key is known both as 0 and as 1, on one sheet (katan_smudged,
+                                   katan_join) or between two (katan_join) */
 
 #define KATAN_ROUNDS 254                /* positions are 0 to 254: the rounds that a block has behind it */
 #define KATAN_LAST_CLOCK 23             /* clock numbers are 0 to 23, and are not positions (katan_origin) */
@@ -86,6 +89,7 @@ extern "C" {
 
 /* Lengths in bytes. */
 #define KATAN_KEY_LENGTH 10
+#define KATAN_JOINED_KEY_LENGTH 20  /* of a key with smudged bits, as katan_join gives it */
 #define KATAN_LONGEST_DATA 4096  /* of a call for a keystream */
 #define KATAN_RECORD_LENGTH 40
 #define KATAN_LANE_LENGTH 20
@@ -98,6 +102,7 @@ extern "C" {
 #define KATAN_ARRIVAL_WORDS 3
 #define KATAN_READING_WORDS 2
 #define KATAN_ORIGIN_WORDS 3
+#define KATAN_SMUDGED_WORDS 2  /* of registers or a block with smudged bits */
 
 /*
  * A record, of KATAN_RECORD_LENGTH bytes. Numbers are low byte first.
@@ -253,6 +258,53 @@ uint8_t katan_keystream(uint8_t variant, const uint8_t *key, size_t key_length, 
  */
 uint8_t katan_origin(uint8_t variant, const uint8_t *key, size_t key_length, uint64_t block, uint64_t clock,
                      uint64_t *out, size_t out_length);
+
+/*
+ * A sheet: what can be read of a block and its key, where digits are smudged. Each bit is known as 1, known as 0, or
+ * unknown, and a sheet gives them in four parts:
+ *     ones, zeros              the bits of the block that are known as 1, and those known as 0: numbers below 2^n
+ *     key_ones, key_zeros      the same of the key, of KATAN_KEY_LENGTH bytes each: key bit 8 j + b is bit b of byte j
+ * A bit that is set in neither part is unknown. One that is set in both is a contradiction, and gets 16. So a block of
+ * which all is known has zeros = 2^n - 1 - ones; a hexadecimal digit that nobody can read is 0 in both parts.
+ *
+ * katan_smudged runs rounds from position 0, where the block stands in the registers, to `position`, 0 to KATAN_ROUNDS.
+ * `out` has KATAN_SMUDGED_WORDS elements. On status 0 they are
+ *     ones     the bits of the registers there that are known as 1
+ *     zeros    the bits of the registers there that are known as 0
+ *
+ * The cipher's formulas are worked by two rules: xor with an unknown bit is unknown; 0 times anything is 0, and any
+ * other product with an unknown bit is unknown. So a product with IR is known where IR is 0. KATAN's k(i) for i from 80
+ * on is made from the earlier k by these rules; KTANTAN picks its key bits from the sheet.
+ *
+ * Each bit given as known is the one that the cipher's rounds give however the unknown bits are filled in. A bit may be
+ * unknown although all fillings agree on it: an unknown bit is not traced to where it came from, and two that are always
+ * equal do not cancel. A sheet that knows more loses and alters no known bit, and one that knows all gives all of the
+ * registers, at KATAN_ROUNDS the block of katan_encrypt.
+ *
+ * Checked: 1; 2 of `key_ones`, `key_zeros` and `out`; 6; 7 of `ones` and `zeros`; 16.
+ */
+uint8_t katan_smudged(uint8_t variant, uint64_t ones, uint64_t zeros,
+                      const uint8_t *key_ones, size_t key_ones_length, const uint8_t *key_zeros, size_t key_zeros_length,
+                      uint64_t position, uint64_t *out, size_t out_length);
+
+/*
+ * Joins two sheets of one block and key: a bit is known where either knows it. `out` has KATAN_SMUDGED_WORDS elements
+ * and `key_out` KATAN_JOINED_KEY_LENGTH bytes. On status 0 they are a sheet's four parts:
+ *     out          ones, zeros
+ *     key_out      bytes 0 to 9 key_ones, bytes 10 to 19 key_zeros
+ *
+ * The order of the two sheets does not matter, and a sheet joined with itself is that sheet. A run of the joined sheet
+ * knows at least what the runs of both know. Where one sheet knows a bit as 0 and the other as 1 they are not of one
+ * block and key, and get 16.
+ *
+ * Checked: 1; 2 of the four parts of keys, of `out` and of `key_out`; 7 of the four block numbers; 16.
+ */
+uint8_t katan_join(uint8_t variant, uint64_t ones, uint64_t zeros,
+                   const uint8_t *key_ones, size_t key_ones_length, const uint8_t *key_zeros, size_t key_zeros_length,
+                   uint64_t other_ones, uint64_t other_zeros,
+                   const uint8_t *other_key_ones, size_t other_key_ones_length,
+                   const uint8_t *other_key_zeros, size_t other_key_zeros_length,
+                   uint64_t *out, size_t out_length, uint8_t *key_out, size_t key_out_length);
 
 /*
  * The cycles that a number of blocks takes: 255 for each, one for loading and its 254 rounds. It has no status, and is

@@ -179,6 +179,61 @@ void peer_origin(int variant, const u8 *key, u64 block, int clock, u64 *out) {
     out[2] = a.count + b.count;
 }
 
+// ---- smudged bits: the bits known as 1 and those known as 0
+
+typedef struct {
+    u64 ones, zeros;
+} known;
+
+INLINE known at(known l, int i) { return (known){BIT(l.ones, i), BIT(l.zeros, i)}; }
+
+INLINE known sum(known a, known b) {
+    return (known){(a.ones & b.zeros) | (a.zeros & b.ones), (a.ones & b.ones) | (a.zeros & b.zeros)};
+}
+
+INLINE known product(known a, known b) { return (known){a.ones & b.ones, a.zeros | b.zeros}; }
+
+INLINE known shifted(known l, known in, u64 mask) {
+    return (known){(l.ones << 1 | in.ones) & mask, (l.zeros << 1 | in.zeros) & mask};
+}
+
+INLINE known smudged(int len1, int len2, int x2, int x3, int x4, int x5, int y2, int y3, int y4, int y5, int y6, int clocks,
+                     const known *k, known block, int position) {
+    int x1 = len1 - 1, y1 = len2 - 1;
+    u64 mask1 = ((u64)1 << len1) - 1, mask2 = ((u64)1 << len2) - 1;
+    known l1 = {block.ones >> len2, block.zeros >> len2}, l2 = {block.ones & mask2, block.zeros & mask2};
+    for (int r = 0; r < position; r++) {
+        known ka = k[2 * r], kb = k[2 * r + 1], irregular = {ir[r], !ir[r]};
+        for (int c = 0; c < clocks; c++) {
+            known fa = sum(sum(at(l1, x1), at(l1, x2)), product(at(l1, x3), at(l1, x4)));
+            known fb = sum(sum(at(l2, y1), at(l2, y2)), product(at(l2, y3), at(l2, y4)));
+            fa = sum(sum(fa, product(at(l1, x5), irregular)), ka);
+            fb = sum(sum(fb, product(at(l2, y5), at(l2, y6))), kb);
+            l1 = shifted(l1, fb, mask1);
+            l2 = shifted(l2, fa, mask2);
+        }
+    }
+    return (known){l1.ones << len2 | l2.ones, l1.zeros << len2 | l2.zeros};
+}
+
+void peer_smudged(int variant, const u64 *block, const u8 *key_ones, const u8 *key_zeros, int position, u64 *out) {
+    known k[ROUND_KEYS], bits[KEY_BITS], b = {block[0], block[1]};
+    for (int i = 0; i < KEY_BITS; i++) bits[i] = (known){BIT(key_ones[i / 8], i % 8), BIT(key_zeros[i / 8], i % 8)};
+    if (variant <= 3) {
+        memcpy(k, bits, sizeof bits);
+        for (int i = KEY_BITS; i < ROUND_KEYS; i++) k[i] = sum(sum(k[i - 80], k[i - 61]), sum(k[i - 50], k[i - 13]));
+    } else {
+        for (int i = 0; i < ROUND_KEYS; i++) k[i] = bits[key_bit[i]];
+    }
+    switch (variant) {
+    case 1: case 4: b = smudged(13, 19, 7, 8, 5, 3, 7, 12, 10, 8, 3, 1, k, b, position); break;
+    case 2: case 5: b = smudged(19, 29, 12, 15, 7, 6, 19, 21, 13, 15, 6, 2, k, b, position); break;
+    default: b = smudged(25, 39, 15, 20, 11, 9, 25, 33, 21, 14, 9, 3, k, b, position);
+    }
+    out[0] = b.ones;
+    out[1] = b.zeros;
+}
+
 // ---- all lanes on the screen
 
 int peer_screen(const u8 *bench, u64 mask, u64 *out, u64 *shown) {

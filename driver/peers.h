@@ -31,6 +31,11 @@ void peer_sheet(int variant, const uint8_t *keys, const uint64_t *blocks, uint64
 // fa and fb of a clock, followed back to the block by two functions that call each other, and the block bits looked up.
 void peer_origin(int variant, const uint8_t *key, uint64_t block, int clock, uint64_t *out);
 
+// Rounds from 0 to a position on a sheet with smudged bits: what is known of the registers there, as two words, the bits
+// known as 1 and those known as 0. Taps compiled in; a register is two words too.
+void peer_smudged(int variant, const uint64_t *block, const uint8_t *key_ones, const uint8_t *key_zeros, int position,
+                  uint64_t *out);
+
 // Every lane of a mask, from a bench's memory with all lengths right: the checks 1 and 8, the registers of those that
 // are loaded and 0 for others, and the mask of those.
 int peer_screen(const uint8_t *bench, uint64_t mask, uint64_t *out, uint64_t *shown);

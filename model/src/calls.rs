@@ -1,9 +1,10 @@
 //! The calls of one cipher as a caller makes them, with the checks of document 01's "Turned away"
-//! that apply, and 14 and 15 of document 02: by rising number, but 14 and 15 before 7; the first fault
+//! that apply, and 14 to 16 of document 02: by rising number, but 14 and 15 before 7; the first fault
 //! found is the answer.
 
 use crate::cipher::{decrypt, encrypt, registers_at, Variant, ROUNDS};
 use crate::origin::{origin, Origin};
+use crate::smudged::{key_bytes, numbers, run, Sheet};
 use crate::stream::{blocks_of, keystream};
 
 /// A refusal's number.
@@ -21,9 +22,9 @@ fn checked_key(key: &[u8]) -> Result<&[u8; 10], Refusal> {
 }
 
 /// 6: a position is over 254.
-fn checked_position(position: u8) -> Result<u8, Refusal> {
-    if position <= ROUNDS {
-        Ok(position)
+fn checked_position(position: u64) -> Result<u8, Refusal> {
+    if position <= ROUNDS as u64 {
+        Ok(position as u8)
     } else {
         Err(Refusal(6))
     }
@@ -149,6 +150,80 @@ pub fn call_origin(
     Ok(())
 }
 
+/// A sheet as a call is handed it: the bits known as 1 and those known as 0, of the block and of the key.
+#[derive(Clone, Copy, Debug)]
+pub struct Parts<'a> {
+    pub ones: u64,
+    pub zeros: u64,
+    pub key_ones: &'a [u8],
+    pub key_zeros: &'a [u8],
+}
+
+impl Parts<'_> {
+    /// 2, of either part of the key.
+    fn checked_keys(&self) -> Result<(&[u8; 10], &[u8; 10]), Refusal> {
+        Ok((checked_key(self.key_ones)?, checked_key(self.key_zeros)?))
+    }
+
+    /// 7, of either block number.
+    fn checked_blocks(&self, variant: Variant) -> Result<(u64, u64), Refusal> {
+        Ok((
+            checked_block(variant, self.ones)?,
+            checked_block(variant, self.zeros)?,
+        ))
+    }
+}
+
+/// 16: a bit is known both as 0 and as 1.
+const CONTRADICTION: Refusal = Refusal(16);
+
+/// Rounds run on a sheet from position 0: what is known of the registers at a position, ones and then
+/// zeros, into `out`, or the first fault in the order 1, 2, 6, 7, 16.
+pub fn call_smudged(
+    variant: u8,
+    sheet: Parts,
+    position: u64,
+    out: &mut [u64],
+) -> Result<(), Refusal> {
+    let variant = checked_variant(variant)?;
+    let keys = sheet.checked_keys()?;
+    if out.len() != 2 {
+        return Err(Refusal(2));
+    }
+    let position = checked_position(position)?;
+    let blocks = sheet.checked_blocks(variant)?;
+    let sheet = Sheet::from_parts(variant, blocks, keys).ok_or(CONTRADICTION)?;
+    let (ones, zeros) = numbers(&run(variant, &sheet, position));
+    out.copy_from_slice(&[ones, zeros]);
+    Ok(())
+}
+
+/// Two sheets of one block joined: what either knows of the block into `out` and of the key into
+/// `key_out`, each ones and then zeros, or the first fault in the order 1, 2, 7, 16.
+pub fn call_join(
+    variant: u8,
+    sheet: Parts,
+    other: Parts,
+    out: &mut [u64],
+    key_out: &mut [u8],
+) -> Result<(), Refusal> {
+    let variant = checked_variant(variant)?;
+    let (keys, other_keys) = (sheet.checked_keys()?, other.checked_keys()?);
+    if out.len() != 2 || key_out.len() != 20 {
+        return Err(Refusal(2));
+    }
+    let blocks = sheet.checked_blocks(variant)?;
+    let other_blocks = other.checked_blocks(variant)?;
+    let sheet = Sheet::from_parts(variant, blocks, keys).ok_or(CONTRADICTION)?;
+    let other = Sheet::from_parts(variant, other_blocks, other_keys).ok_or(CONTRADICTION)?;
+    let joined = sheet.join(&other).ok_or(CONTRADICTION)?;
+    let (ones, zeros) = numbers(&joined.block);
+    let (key_ones, key_zeros) = key_bytes(&joined.key);
+    out.copy_from_slice(&[ones, zeros]);
+    key_out.copy_from_slice(&[key_ones, key_zeros].concat());
+    Ok(())
+}
+
 pub fn call_registers_at(
     variant: u8,
     key: &[u8; 10],
@@ -157,8 +232,8 @@ pub fn call_registers_at(
     block: u64,
 ) -> Result<u64, Refusal> {
     let variant = checked_variant(variant)?;
-    let from = checked_position(from)?;
-    let to = checked_position(to)?;
+    let from = checked_position(from.into())?;
+    let to = checked_position(to.into())?;
     let block = checked_block(variant, block)?;
     Ok(registers_at(variant, key, from, to, block))
 }
@@ -240,5 +315,117 @@ mod tests {
             );
             assert_eq!(number == 0, out != vec![7; out_length]);
         }
+    }
+
+    /// Parts of keys for the cases below. KEY and OTHER share no bit; KEY and CLASH share key bit 79.
+    const KEY: [u8; 10] = [0x0f, 0, 0, 0, 0, 0, 0, 0, 0, 0x80];
+    const OTHER: [u8; 10] = [0xf0, 0, 0, 0, 0, 0, 0, 0, 0, 0];
+    const CLASH: [u8; 10] = [0xf0, 0, 0, 0, 0, 0, 0, 0, 0, 0x80];
+
+    fn parts<'a>(
+        (ones, zeros): (u64, u64),
+        (key_ones, key_zeros): (&'a [u8], &'a [u8]),
+    ) -> Parts<'a> {
+        Parts {
+            ones,
+            zeros,
+            key_ones,
+            key_zeros,
+        }
+    }
+
+    /// Request (ix)'s limits of a run: variant, block, key, position, words of the output, and the refusal's
+    /// number or 0.
+    #[test]
+    fn which_sheets_are_run() {
+        let sound: (&[u8], &[u8]) = (&KEY, &OTHER);
+        let clash: (&[u8], &[u8]) = (&KEY, &CLASH);
+        let short: (&[u8], &[u8]) = (&KEY[1..], &OTHER);
+        let long: (&[u8], &[u8]) = (&KEY, &[0; 11]);
+        let cases = [
+            (1, (1, 2), sound, 0, 2, 0),
+            (1, (0xffff_0000, 0xffff), sound, 254, 2, 0),
+            (6, (u64::MAX, 0), sound, 254, 2, 0),
+            (6, (u64::MAX, 1 << 63), sound, 254, 2, 16),
+            (1, (1, 3), sound, 0, 2, 16),
+            (1, (1, 2), clash, 254, 2, 16),
+            (1, (1 << 32, 0), sound, 0, 2, 7),
+            (1, (0, 1 << 32), sound, 0, 2, 7),
+            (1, (1 << 32, 1 << 32), clash, 0, 2, 7),
+            (5, (0, 1 << 48), sound, 254, 2, 7),
+            (2, (1, 2), sound, 255, 2, 6),
+            (2, (1, 2), sound, 256, 2, 6),
+            (3, (1, 2), sound, 1 << 32, 2, 6),
+            (4, (1, 2), sound, (1 << 32) + 5, 2, 6),
+            (5, (1, 2), sound, u64::MAX, 2, 6),
+            (1, (1 << 32, 3), clash, 255, 2, 6),
+            (1, (1, 2), short, 0, 2, 2),
+            (1, (1, 2), long, 0, 2, 2),
+            (1, (1, 2), sound, 0, 1, 2),
+            (1, (1 << 32, 3), clash, 255, 3, 2),
+            (0, (1, 2), sound, 0, 2, 1),
+            (7, (1 << 32, 3), short, 255, 3, 1),
+        ];
+        for (variant, block, key, position, out_length, expected) in cases {
+            let mut out = vec![7; out_length];
+            let answer = call_smudged(variant, parts(block, key), position, &mut out);
+            let number = answer.map_or_else(|Refusal(number)| number, |()| 0);
+            let context = format!("{variant}, {block:x?}, {key:x?}, {position}, {out_length}");
+            assert_eq!(number, expected, "{context}");
+            assert_eq!(number == 0, out != vec![7; out_length], "{context}");
+        }
+    }
+
+    /// Request (ix)'s limits of a join: variant, both blocks, both keys, words and bytes of the outputs, and
+    /// the refusal's number or 0.
+    #[test]
+    fn which_sheets_are_joined() {
+        let none: (&[u8], &[u8]) = (&[0; 10], &[0; 10]);
+        let sound: (&[u8], &[u8]) = (&KEY, &OTHER);
+        let turned: (&[u8], &[u8]) = (&OTHER, &KEY);
+        let clash: (&[u8], &[u8]) = (&KEY, &CLASH);
+        let short: (&[u8], &[u8]) = (&KEY, &OTHER[1..]);
+        let cases = [
+            (1, [(1, 2), (5, 8)], [sound, none], (2, 20), 0),
+            (6, [(u64::MAX, 0), (0, 0)], [none, sound], (2, 20), 0),
+            (1, [(1, 2), (2, 0)], [sound, none], (2, 20), 16),
+            (1, [(1, 2), (0, 1)], [sound, none], (2, 20), 16),
+            (1, [(1, 1), (0, 0)], [sound, none], (2, 20), 16),
+            (1, [(0, 0), (1, 1)], [sound, none], (2, 20), 16),
+            (1, [(0, 0), (0, 0)], [sound, turned], (2, 20), 16),
+            (1, [(0, 0), (0, 0)], [clash, none], (2, 20), 16),
+            (1, [(0, 0), (0, 0)], [none, clash], (2, 20), 16),
+            (1, [(1 << 32, 0), (0, 0)], [none, clash], (2, 20), 7),
+            (1, [(1, 1 << 32), (0, 0)], [none, none], (2, 20), 7),
+            (1, [(0, 0), (1 << 32, 0)], [none, none], (2, 20), 7),
+            (2, [(1, 1), (0, 1 << 48)], [clash, none], (2, 20), 7),
+            (1, [(1 << 32, 0), (0, 0)], [short, none], (2, 20), 2),
+            (1, [(0, 0), (0, 0)], [none, short], (2, 20), 2),
+            (1, [(0, 0), (0, 0)], [none, none], (1, 20), 2),
+            (1, [(0, 0), (0, 0)], [none, clash], (2, 10), 2),
+            (0, [(1, 1), (0, 0)], [short, none], (3, 21), 1),
+        ];
+        for (variant, blocks, keys, (words, bytes), expected) in cases {
+            let (mut out, mut key_out) = (vec![7; words], vec![7; bytes]);
+            let [sheet, other] = [0, 1].map(|i| parts(blocks[i], keys[i]));
+            let answer = call_join(variant, sheet, other, &mut out, &mut key_out);
+            let number = answer.map_or_else(|Refusal(number)| number, |()| 0);
+            let context = format!("{variant}, {blocks:x?}, {keys:x?}, {words}, {bytes}");
+            assert_eq!(number, expected, "{context}");
+            let kept = out == vec![7; words] && key_out == vec![7; bytes];
+            assert_eq!(number != 0, kept, "{context}");
+        }
+    }
+
+    /// What either sheet knows, ones and then zeros.
+    #[test]
+    fn a_join() {
+        let (mut out, mut key_out) = ([0; 2], [0; 20]);
+        let sheet = parts((0b0001, 0b0010), (&KEY, &[0; 10]));
+        let other = parts((0b0101, 0b1000), (&[0; 10], &OTHER));
+        let answer = call_join(1, sheet, other, &mut out, &mut key_out);
+        assert_eq!(answer, Ok(()));
+        assert_eq!(out, [0b0101, 0b1010]);
+        assert_eq!(key_out, [KEY, OTHER].concat()[..]);
     }
 }

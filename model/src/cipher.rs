@@ -44,7 +44,7 @@ impl Variant {
     }
 
     /// The lengths of L1 and L2.
-    fn register_lengths(self) -> (usize, usize) {
+    pub(crate) fn register_lengths(self) -> (usize, usize) {
         match self {
             Katan32 | Ktantan32 => (13, 19),
             Katan48 | Ktantan48 => (19, 29),
@@ -78,7 +78,7 @@ impl Variant {
         }
     }
 
-    fn is_katan(self) -> bool {
+    pub(crate) fn is_katan(self) -> bool {
         matches!(self, Katan32 | Katan48 | Katan64)
     }
 
@@ -106,7 +106,7 @@ fn key_bits(key: &[u8; 10]) -> Vec<u8> {
 
 /// T, the round-counting LFSR, after one clock: T shifted left, with the feedback of
 /// x^8 + x^7 + x^5 + x^3 + 1 as the new T0.
-fn tick(t: [u8; 8]) -> [u8; 8] {
+pub(crate) fn tick(t: [u8; 8]) -> [u8; 8] {
     let feedback = t[7] ^ t[6] ^ t[4] ^ t[2];
     [feedback, t[0], t[1], t[2], t[3], t[4], t[5], t[6]]
 }

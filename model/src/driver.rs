@@ -3,7 +3,8 @@
 
 use crate::bench::{Bench, Lane, Reading, Reply, Screen, LANES, RECORD_LENGTH};
 use crate::calls::{
-    call_decrypt, call_encrypt, call_keystream, call_many, call_origin, Direction, Refusal,
+    call_decrypt, call_encrypt, call_join, call_keystream, call_many, call_origin, call_smudged,
+    Direction, Parts, Refusal,
 };
 use crate::cipher::Variant;
 
@@ -135,6 +136,16 @@ pub fn keystream(variant: u8, key: &[u8], start: u64, data: &[u8], out: &mut [u8
 /// The output is fa, fb and the count of block bits looked up.
 pub fn origin(variant: u8, key: &[u8], block: u64, clock: u64, out: &mut [u64]) -> u8 {
     status(call_origin(variant, key, block, clock, out).map_err(number))
+}
+
+/// The output is what is known of the registers: the bits known as 1, then those known as 0.
+pub fn smudged(variant: u8, sheet: Parts, position: u64, out: &mut [u64]) -> u8 {
+    status(call_smudged(variant, sheet, position, out).map_err(number))
+}
+
+/// The outputs are what either sheet knows of block and key, in the same two parts.
+pub fn join(variant: u8, sheet: Parts, other: Parts, out: &mut [u64], key_out: &mut [u8]) -> u8 {
+    status(call_join(variant, sheet, other, out, key_out).map_err(number))
 }
 
 /// A block is loaded in one cycle, and has 254 rounds.

@@ -12,6 +12,7 @@ pub mod origin;
 pub mod random;
 pub mod script;
 pub mod scripts;
+pub mod smudged;
 pub mod stream;
 pub mod vectors;
 

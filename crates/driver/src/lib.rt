@@ -7,6 +7,7 @@ ghost use Rattle.lanes.specs.declared.Direction.the-variants.{Encrypt, Decrypt}
 ghost use Rattle.lanes_keystream.specs.Stream.{streamAnswer, streamOf};
 ghost use Rattle.katan_rate.specs.Rate.{cyclesOf};
 ghost use Rattle.driver_ciphers.specs.Calls.{interfaceVersion, word, encryptCall, decryptCall, rateCall, clockWords, originCall};
+ghost use Rattle.driver_smudged.specs.Calls.{knownWords, smudgedCall, joinCall, joinedWords, joinedBytes};
 ghost use Rattle.driver_reads.specs.Calls.{responseWords, readCall, shownWord, screenCall, screenedNumbers};
 ghost use Rattle.driver_bench.specs.Calls.{openCall, openedBench, openedLink, arriveCall, arrivedBench, arrivedLink, arrivedAnswer, previewCall, previewedAnswer, previewedRoom};
 ghost use Rattle.driver_replay.specs.Calls.{replayCall, replayedBench, replayedAnswers};
@@ -93,6 +94,59 @@ pub extern "C" fn katan_origin(
     ensures { λ r. ⌜ now (out .exit) ≡ lentAfter clockWords (originCall variant (now (key .entry)) block clock (now (out .entry))) (now (out .entry)) ⌝ }
 {
     driver_ciphers::origin(variant, key, block, clock, out)
+}
+
+// What is known of the registers at a position, with the block in them at position 0, into the two words of `out`: the bits known as 1, then those known
+// as 0.
+#[no_mangle]
+pub extern "C" fn katan_smudged(
+    variant: u8,
+    ones: u64,
+    zeros: u64,
+    key_ones: &[u8],
+    key_zeros: &[u8],
+    position: u64,
+    out: &mut [u64],
+) -> u8
+    ensures { λ r. ⌜ r ≡ statusOf (smudgedCall variant (record { ones = ones; zeros = zeros }) (now («key_ones» .entry)) (now («key_zeros» .entry)) position (now (out .entry))) ⌝ }
+    ensures { λ r. ⌜ now (out .exit) ≡ lentAfter knownWords (smudgedCall variant (record { ones = ones; zeros = zeros }) (now («key_ones» .entry)) (now («key_zeros» .entry)) position (now (out .entry))) (now (out .entry)) ⌝ }
+{
+    driver_smudged::smudged(variant, ones, zeros, key_ones, key_zeros, position, out)
+}
+
+// What either of two sheets of one block knows: of the block into the two words of `out`, of the key into the 20 bytes of `key_out`, each time the bits
+// known as 1 first.
+#[no_mangle]
+pub extern "C" fn katan_join(
+    variant: u8,
+    ones: u64,
+    zeros: u64,
+    key_ones: &[u8],
+    key_zeros: &[u8],
+    other_ones: u64,
+    other_zeros: u64,
+    other_key_ones: &[u8],
+    other_key_zeros: &[u8],
+    out: &mut [u64],
+    key_out: &mut [u8],
+) -> u8
+    ensures { λ r. ⌜ (r ≡ statusOf (joinCall variant (record { ones = ones; zeros = zeros }) (now («key_ones» .entry)) (now («key_zeros» .entry)) (record { ones = «other_ones»; zeros = «other_zeros» }) (now («other_key_ones» .entry)) (now («other_key_zeros» .entry)) (now (out .entry)) (now («key_out» .entry))))
+        × (now (out .exit) ≡ lentAfter joinedWords (joinCall variant (record { ones = ones; zeros = zeros }) (now («key_ones» .entry)) (now («key_zeros» .entry)) (record { ones = «other_ones»; zeros = «other_zeros» }) (now («other_key_ones» .entry)) (now («other_key_zeros» .entry)) (now (out .entry)) (now («key_out» .entry))) (now (out .entry)))
+        × (now («key_out» .exit) ≡ lentAfter joinedBytes (joinCall variant (record { ones = ones; zeros = zeros }) (now («key_ones» .entry)) (now («key_zeros» .entry)) (record { ones = «other_ones»; zeros = «other_zeros» }) (now («other_key_ones» .entry)) (now («other_key_zeros» .entry)) (now (out .entry)) (now («key_out» .entry))) (now («key_out» .entry))) ⌝ }
+{
+    driver_smudged::join(
+        variant,
+        ones,
+        zeros,
+        key_ones,
+        key_zeros,
+        other_ones,
+        other_zeros,
+        other_key_ones,
+        other_key_zeros,
+        out,
+        key_out,
+    )
 }
 
 // The cycles that a number of blocks takes.

@@ -1,6 +1,6 @@
 -- What a call with words lent for its answer leaves, by what was found of variant and lent memory.
 -- Assumes nothing.
-use mathlib.Core.Path.{_≡_, sym, ap, subst, _∙_}
+use mathlib.Core.Path.{_≡_, sym, ap, _∙_}
 use mathlib.Core.List.{List}
 use Prim.Native.Nat.{ℕ}
 use borrow.Author.Tests.{eqb-true, not-false}
@@ -9,6 +9,7 @@ use lib.ListN.{length}
 use Rattle.katan.specs.Checks.{Outcome, value, refused, numberOf, Check, checked}
 use Rattle.katan.specs.Lent.{statusOf, lentAfter}
 use Rattle.katan.specs.declared.Refusal.{Refusal}
+use Rattle.katan.proofs.Lent.{same-answer}
 use Rattle.katan.proofs.Checked.{NoFault, all-passed, no-fault-found, fault-found}
 use Rattle.driver_ciphers.specs.Calls.{lentChecks}
 use Rattle.driver_ciphers.specs.inner.Words.{lentOutcome}
@@ -21,7 +22,7 @@ module _ {A : Type 0} (f : A → List ℕ) (cs : List Check) (out : List ℕ) wh
 
   -- what is left for an answer is left for what the answer says
   pub answered : {a b : Outcome A} {r : ℕ} {new : List ℕ} → a ≡ b → Leaves r new a → Leaves r new b
-  answered {r = r} {new} e g = subst (Leaves r new) e g
+  answered e g = same-answer f out (ap (checked cs) e) g
 
 -- the checks of variant and lent memory come first
 module _ (v n : ℕ) (out : List ℕ) (l : Lent) (e : lentOutcome l ≡ checked (lentChecks v n out) (value tt)) where

@@ -5,7 +5,7 @@ use mathlib.Core.List.{List, [], _∷_, _++_, append-assoc, append-nil}
 use Prim.Native.Nat.{ℕ, suc, _+_, _-_, _<_, _≤_}
 use native.Mathlib.Numerals.{add-one}
 use native.Mathlib.Omega.{arith}
-use lib.ListN.{length, getD, take, drop, set, drop-of-length-le, length-append}
+use lib.ListN.{length, getD, take, drop, set, drop-of-length-le}
 use lib.Seq.{drop-cons, drop-drop, take-all, take-suc-set, length-take-le, take-append-add, drop-append-add, take-at, drop-at}
 use Rattle.bench.specs.declared.Lane.{Lane}
 use Rattle.bench.specs.declared.Slot.{Slot}
@@ -30,22 +30,6 @@ module _ (a k : ℕ) (xs ys : List ℕ) (h : a ≤ length xs) (l : length ys ≡
       ap (λ (m : ℕ). drop (m + k) (take a xs ++ (ys ++ rest))) (sym n)
       ∙ drop-append-add (take a xs) (ys ++ rest) k
       ∙ drop-at ys rest k l
-
--- a list written anew in two parts, and in three
-pub two-parts : (a k : ℕ) (xs ys zs : List ℕ) → length xs ≡ a + k → length ys ≡ a
-    → take a (ys ++ drop a xs) ++ (zs ++ drop k (drop a (ys ++ drop a xs))) ≡ ys ++ zs
-two-parts a k xs ys zs l ly =
-    let le : length xs ≤ a + k = omega arith in
-    simp (take-at ys (drop a xs) a ly, drop-at ys (drop a xs) a ly, drop-drop k a xs, drop-of-length-le xs le, append-nil)
-
-pub three-parts : (a b k : ℕ) (xs ys zs ws : List ℕ) → length xs ≡ a + b + k → length ys ≡ a → length zs ≡ b
-    → let now = take a (ys ++ drop a xs) ++ (zs ++ drop b (drop a (ys ++ drop a xs))) in
-    take (a + b) now ++ (ws ++ drop k (drop (a + b) now)) ≡ ys ++ zs ++ ws
-three-parts a b k xs ys zs ws l ly lz =
-    let now = take a (ys ++ drop a xs) ++ (zs ++ drop b (drop a (ys ++ drop a xs))) in
-    let e : now ≡ (ys ++ zs) ++ drop (a + b) xs = simp (take-at ys (drop a xs) a ly, drop-at ys (drop a xs) a ly, drop-drop b a xs, append-assoc) in
-    let m : length (ys ++ zs) ≡ a + b = simp length-append (omega arith) in
-    ap (λ (o : List ℕ). take (a + b) o ++ (ws ++ drop k (drop (a + b) o))) e ∙ two-parts (a + b) k xs (ys ++ zs) ws l m
 
 -- the lanes read, one after the other; n of them in all
 abbrev slotOf : Lane → Slot

@@ -3,10 +3,7 @@
 ghost use mathlib.Core.Path.{_≡_};
 ghost use mathlib.Core.List.{[], _∷_};
 ghost use lib.ListN.{length};
-ghost use Rattle.katan.specs.Key.{keyNumber};
 ghost use Rattle.katan.specs.Lent.{fitted};
-ghost use Rattle.katan.specs.Sizes.{keyBytes};
-ghost use Rattle.katan.specs.Bit.{bytesOf};
 ghost use Rattle.driver_layout.specs.Layout.{keyStart, laneLength, benchLength, linkLength, loadedState, positionIn, loadedIn, laneIn, benchIn, linkIn, readAs, loadedBytes, laneBytes, benchBytes, linkBytes};
 use bench::Bench;
 use bench::Lane;
@@ -16,7 +13,6 @@ use bench::Slot;
 use bench_record::LENGTH;
 use bench_record::bytes::bytes_in;
 use katan::KEY_BYTES;
-use katan::Key;
 use katan::LANES;
 use katan::RoundPosition;
 use katan::WORD_BYTES;
@@ -139,14 +135,6 @@ pub fn link_in(bytes: &[u8]) -> Link
     }
 }
 
-fn put_key(key: Key, out: &mut [u8])
-    requires { ⌜ length (now out) ≡ keyBytes ⌝ }
-    ensures { λ r. ⌜ now (out .exit) ≡ bytesOf keyBytes (keyNumber key) ⌝ }
-{
-    katan_numbers::put_number(key.low, &mut out[0..WORD_BYTES]);
-    katan_numbers::put_number(key.high as u64, &mut out[WORD_BYTES..KEY_BYTES]);
-}
-
 // The state and the position of a loaded lane.
 fn put_head(position: u8, out: &mut [u8])
     requires { ⌜ length (now out) ≡ keyStart ⌝ }
@@ -162,7 +150,7 @@ fn put_loaded(h: Loaded, out: &mut [u8])
 {
     let key = h.key;
     put_head(h.position.0, &mut out[STATE_AT..KEY_AT]);
-    put_key(key, &mut out[KEY_AT..REGISTERS_AT]);
+    katan_numbers::put_key(key, &mut out[KEY_AT..REGISTERS_AT]);
     katan_numbers::put_number(h.registers, &mut out[REGISTERS_AT..LANE_LENGTH]);
 }
 

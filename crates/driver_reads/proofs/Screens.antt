@@ -14,7 +14,8 @@ use Rattle.bench_screen.specs.Screen.{numbersShown, screenAnswer, screenNumbers
 use Rattle.bench_screen.proofs.Theorems.{looked-before}
 use Rattle.driver_layout.specs.Layout.{benchLength, benchIn}
 use Rattle.driver_reads.specs.Calls.{shownWords, shownWord, screenCall, screenedNumbers}
-use Rattle.driver_reads.proofs.Held.{either, same-answer}
+use Rattle.katan.proofs.Lent.{same-answer}
+use Rattle.driver_reads.proofs.Held.{either}
 
 module _ (bench : List ℕ) (m : ℕ) (out shown : List ℕ) (n : length bench ≡ benchLength) where
   -- 2, unless the bench gets 1

@@ -8,15 +8,19 @@ use native.Mathlib.Omega.{arith}
 use borrow.Author.Count.{below-more}
 use lib.Arith.{bin-ind}
 use lib.Pow.{pow-pos, pow-add, pow-mono, field, mod-mod-pow, shl-exact, shr-shr, shl-shr, shr-lt, high, low}
-use lib.Bits.{and-lt, xor-lt, xor-shr, xor-mod, and-shr, and-mod, and-block, xor-comm, xor-self, xor-zero-r}
+use lib.Bits.{and-lt, xor-lt, xor-shr, xor-mod, and-shr, and-mod, and-block, or-shr, or-mod, xor-comm, xor-self, xor-zero-r}
 use lib.Dec.{lit<}
-use Rattle.katan.specs.Bit.{bit, xor, and, fromBits}
+use Rattle.katan.specs.Bit.{bit, xor, and, or, fromBits}
 use Rattle.katan.specs.Clock.{fa, fb, faRest, fbRest}
 use Rattle.katan.specs.declared.Row.{Row}
 
 -- `1 << w` is 2 ^ w
 pub one-shifted : (w : ℕ) → w < 64 → (1 * 2 ^ w) % 2 ^ 64 ≡ 2 ^ w
 one-shifted w h = shl-exact {a = 1} 1 w 64 (lit< tt) (omega arith) ∙ one-mul (2 ^ w)
+
+-- a register of fewer than 64 bits leaves room for a shift
+pub room : {l w : ℕ} → l < 2 ^ w → w < 64 → l < 2 ^ 63
+room {l} {w} h q = lt-of-lt-of-le h (pow-mono {i = w} {j = 63} (omega arith))
 
 pub bit-lt : (x i : ℕ) → bit x i < 2
 bit-lt x i = mod-lt (x / 2 ^ i) (lit< tt)
@@ -87,12 +91,15 @@ module _ (f : ℕ → ℕ) where
       (bit-top n (f n) small (h n (omega arith)))
       i (omega arith)
 
--- bit j of an xor and of an and
+-- bit j of an xor, of an and and of an or
 pub bit-xor : (a b j : ℕ) → bit (xor a b) j ≡ xor (bit a j) (bit b j)
 bit-xor a b j = ap (λ (y : ℕ). y % 2) (xor-shr a b j) ∙ xor-mod (a / 2 ^ j) (b / 2 ^ j) 1
 
 pub bit-and : (a b j : ℕ) → bit (and a b) j ≡ and (bit a j) (bit b j)
 bit-and a b j = ap (λ (y : ℕ). y % 2) (and-shr a b j) ∙ and-mod (a / 2 ^ j) (b / 2 ^ j) 1
+
+pub bit-or : (a b j : ℕ) → bit (or a b) j ≡ or (bit a j) (bit b j)
+bit-or a b j = ap (λ (y : ℕ). y % 2) (or-shr a b j) ∙ or-mod (a / 2 ^ j) (b / 2 ^ j) 1
 
 module _ (v : Row) (l : ℕ) where
   pub fa-rest-bit : {ir ka : ℕ} → ir < 2 → ka < 2 → faRest xor and v (bit l) ir ka < 2

@@ -12,7 +12,7 @@ use lib.ListN.{length, getD, length-append, List·getD-append}
 use lib.Seq.{getD-at}
 use Rattle.katan.specs.Bit.{bit, xor, pick, tabulate}
 use Rattle.katan.specs.Counter.{counter, irOf, rounds}
-use Rattle.katan.specs.Key.{keyLength, keyBitNumber, kRule, kList, kAt, roundKeys, keyBits, k}
+use Rattle.katan.specs.Key.{keyLength, kaNumber, kbNumber, keyBitNumber, kRule, kList, kAt, roundKeys, keyBits, k}
 use Rattle.katan.specs.Variant.{isKatan, lastKatan}
 use Rattle.katan.specs.Clock.{inputOf}
 use Rattle.katan.specs.inner.Within.{Bits}
@@ -134,9 +134,16 @@ zero-keys v r =
 
 -- ---- a round's key bits as document 01 has them
 
--- the key bit that a round takes goes by the kind of variant
-chosen : (c b : Bool) → c ≡ b → (ks key : List ℕ) (i j : ℕ) → getD (pick c ks key) (pick c i j) 0 ≡ getD (pick b ks key) (pick b i j) 0
-chosen c b e ks key i j = rw e
+-- for bits of any kind: the key bit that a round takes goes by the kind of variant, with i its number for a KATAN and j for a KTANTAN
+module _ {B : Type 0} (_⊕_ : B → B → B) (z : B) (key : List B) (v i j : ℕ) where
+  abbrev taken : Bool → B
+  taken c = getD (pick c (kList _⊕_ z key (2 * rounds - keyLength)) key) (pick c i j) z
+
+  pub katan-takes : length key ≡ keyLength → v ≤ lastKatan → i < 2 * rounds → taken (isKatan v) ≡ kAt _⊕_ z key i
+  katan-takes l h q = ap taken (le-leb v lastKatan h) ∙ k-entry _⊕_ z key l (2 * rounds - keyLength) i (omega arith)
+
+  pub ktantan-takes : lastKatan < v → taken (isKatan v) ≡ getD key j z
+  ktantan-takes h = ap taken (lt-leb v lastKatan h)
 
 abbrev input : ℕ → ℕ → ℕ → RoundInput
 input r x y = record { ir = irOf (counter r); ka = x; kb = y }
@@ -144,11 +151,9 @@ input r x y = record { ir = irOf (counter r); ka = x; kb = y }
 pub katan-input : (v key r : ℕ) → v ≤ lastKatan → r < rounds → inputOf v key r ≡ record { ir = irOf (counter r); ka = k key (2 * r); kb = k key (2 * r + 1) }
 unfolding inputOf k
 katan-input v key r h q =
-    let at : (i : ℕ) → i < 2 * rounds → getD (kList xor 0 (keyBits key) (2 * rounds - keyLength)) i 0 ≡ kAt xor 0 (keyBits key) i
-    = λ i l. k-entry xor 0 (keyBits key) (key-length key) (2 * rounds - keyLength) i (omega arith) in
-    ap₂ (input r)
-    (chosen (isKatan v) true (le-leb v lastKatan h) _ _ _ _ ∙ at (2 * r) (omega arith))
-    (chosen (isKatan v) true (le-leb v lastKatan h) _ _ _ _ ∙ at (2 * r + 1) (omega arith))
+    let ks = keyBits key in
+    let t = counter r in
+    ap₂ (input r) (katan-takes xor 0 ks v (2 * r) (kaNumber t) (key-length key) h (omega arith)) (katan-takes xor 0 ks v (2 * r + 1) (kbNumber t) (key-length key) h (omega arith))
 
 pub ktantan-input : (v key r : ℕ) → lastKatan < v → r < rounds
     → inputOf v key r ≡ record { ir = irOf (counter r); ka = bit key (keyBitNumber (2 * r)); kb = bit key (keyBitNumber (2 * r + 1)) }
@@ -157,5 +162,5 @@ ktantan-input v key r h q =
     let at : (i j : ℕ) → keyBitNumber i ≡ j → i < 2 * rounds → getD (keyBits key) j 0 ≡ bit key (keyBitNumber i)
     = λ i j e l. ap (λ (y : ℕ). getD (keyBits key) y 0) (sym e) ∙ entry (bit key) keyLength (keyBitNumber i) 0 (number-below i l) in
     ap₂ (input r)
-    (chosen (isKatan v) false (lt-leb v lastKatan h) _ _ _ _ ∙ at (2 * r) _ (ka-number r) (omega arith))
-    (chosen (isKatan v) false (lt-leb v lastKatan h) _ _ _ _ ∙ at (2 * r + 1) _ (kb-number r) (omega arith))
+    (ktantan-takes xor 0 (keyBits key) v (2 * r) (kaNumber (counter r)) h ∙ at (2 * r) _ (ka-number r) (omega arith))
+    (ktantan-takes xor 0 (keyBits key) v (2 * r + 1) (kbNumber (counter r)) h ∙ at (2 * r + 1) _ (kb-number r) (omega arith))

@@ -4,6 +4,7 @@ pub mod Fill
 pub mod Bytes
 pub mod Words
 pub mod Copies
+pub mod Lent
 pub mod Numbers
 pub mod Booleans
 pub mod Checked

@@ -2,12 +2,12 @@
 -- Assumes nothing.
 use mathlib.Core.Path.{_≡_, refl, sym, ap, ap₂, _∙_}
 use mathlib.Core.Bool.{Bool, true, false}
-use Prim.Native.Nat.{ℕ, _+_, _-_, _^_, _<_, _≤_}
-use native.Mathlib.Nat.{mul-le-mul-right, mod-lt, div-add-mod', zero-add, sub-self, le-refl}
+use Prim.Native.Nat.{ℕ, _+_, _-_, _%_, _^_, _<_, _≤_}
+use native.Mathlib.Nat.{mul-le-mul-right, mod-lt, mod-eq-of-lt, lt-of-lt-of-le, div-add-mod', zero-add, sub-self, le-refl}
 use native.Mathlib.Omega.{arith}
 use borrow.Author.Tests.{leb-true, leb-false, le-leb, lt-leb}
 use lib.Dec.{leb}
-use lib.Pow.{pow-pos, pow-add, high, low, shr-lt}
+use lib.Pow.{pow-pos, pow-add, pow-mono, high, low, shr-lt}
 use Rattle.katan.specs.Counter.{rounds}
 use Rattle.katan.specs.Clock.{run, unrun, block, registers, inputOf}
 use Rattle.katan.specs.Variant.{rowOf, widthOf}
@@ -26,6 +26,10 @@ module _ (v : Row) (t : Sound v) where
 
   pub block-fits : (s : Registers) → RegistersFit v s → block v s < 2 ^ (v .n)
   block-fits s f = rw (← t .both) (omega (arith, mul-le-mul-right (2 ^ (v .len2)) (f .l1-fits), pow-add 2 (v .len1) (v .len2), f .l2-fits))
+
+  -- a word has room for it
+  pub block-in-word : (s : Registers) → RegistersFit v s → block v s % 2 ^ 64 ≡ block v s
+  block-in-word s f = mod-eq-of-lt (lt-of-lt-of-le (block-fits s f) (pow-mono {i = v .n} {j = 64} (t .n-fits)))
 
   block-registers : (x : ℕ) → block v (registers v x) ≡ x
   block-registers x = div-add-mod' x (2 ^ (v .len2))

@@ -20,7 +20,7 @@ pub record Shows (v : Row) (p q : ℕ → ℕ) (g : Registers) : Type 0 where
 
 -- a register of m + 1 bits, whose length is w, and the bit b that enters it
 module _ (m w l b : ℕ) (p p′ : ℕ → ℕ) (e : m + 1 ≡ w) (small : b < 2) (held : (i : ℕ) → i < w → p i ≡ bit l i) (low : p′ 0 ≡ b) (up : (i : ℕ) → i < m → p′ (suc i) ≡ p i) where
-  pushed : (i : ℕ) → i < w → p′ i ≡ bit (shiftIn w l b) i
+  pub pushed : (i : ℕ) → i < w → p′ i ≡ bit (shiftIn w l b) i
   pushed zero q = low ∙ sym (in-lowest m l b small) ∙ ap (λ (n : ℕ). bit (shiftIn n l b) 0) e
   pushed (suc i) q =
       up i (omega arith) ∙ held i (omega arith) ∙ sym (in-higher m l b i small (omega arith)) ∙ ap (λ (n : ℕ). bit (shiftIn n l b) (suc i)) e

@@ -3,13 +3,14 @@
 use mathlib.Core.Path.{_≡_, refl, sym, ap, _∙_}
 use mathlib.Core.Bool.{Bool, true, false}
 use mathlib.Core.List.{[]}
+use mathlib.Core.Logic.{_⊎_, inl, inr, ⊎-elim}
 use Prim.Native.Nat.{ℕ, zero, suc, _-_, _<_, _≤_}
 use native.Mathlib.Omega.{arith}
 use borrow.Author.Tests.{ltb-false, ltb-true, leb-true, lt-ltb, le-ltb, le-leb}
 use lib.Dec.{leb, ltb}
 use lib.ListN.{List·getD-eq-default}
 use Rattle.katan.specs.Bit.{pick}
-use Rattle.katan.specs.Variant.{row32, rows, rowOf}
+use Rattle.katan.specs.Variant.{row32, row48, row64, rows, rowOf}
 use Rattle.katan.specs.Checks.{numberOf, value, refused, variantCheck}
 use Rattle.katan.specs.Rows.{rowOutcome, rowAnswer}
 use Rattle.katan.specs.declared.Row.{Row}
@@ -72,3 +73,24 @@ row-found v a r e f =
 
 pub row-refused : (v : ℕ) (a : RowAnswer) (r : Refusal) → rowOutcome a ≡ rowAnswer v → a ≡ Refused r → (variantCheck v .fault ≡ true) × (numberOf r ≡ 1)
 row-refused v a r e f = failed (numberOf r) (rowOf v) (variantCheck v .fault) (ap rowOutcome (sym f) ∙ e)
+
+-- ---- the row of a variant
+
+row-by-number : (row : Row) (v a b : ℕ) → row ≡ rowOf a → row ≡ rowOf b → (v ≡ a) ⊎ (v ≡ b) → row ≡ rowOf v
+row-by-number row v a b e f c = ⊎-elim (λ g. e ∙ ap rowOf (sym g)) (λ g. f ∙ ap rowOf (sym g)) c
+
+pub is-row32 : (v : ℕ) → (v ≡ 1) ⊎ (v ≡ 4) → row32 ≡ rowOf v
+is-row32 v c = row-by-number row32 v 1 4 refl refl c
+
+pub is-row48 : (v : ℕ) → (v ≡ 2) ⊎ (v ≡ 5) → row48 ≡ rowOf v
+is-row48 v c = row-by-number row48 v 2 5 refl refl c
+
+pub is-row64 : (v : ℕ) → 1 ≤ v → v ≤ 6 → ((v ≡ 1) ⊎ (v ≡ 4) → ⊥) → ((v ≡ 2) ⊎ (v ≡ 5) → ⊥) → row64 ≡ rowOf v
+is-row64 zero p q f g = absurd (omega arith)
+is-row64 (suc zero) p q f g = absurd (f (inl refl))
+is-row64 (suc (suc zero)) p q f g = absurd (g (inl refl))
+is-row64 (suc (suc (suc zero))) p q f g = refl
+is-row64 (suc (suc (suc (suc zero)))) p q f g = absurd (f (inr refl))
+is-row64 (suc (suc (suc (suc (suc zero))))) p q f g = absurd (g (inr refl))
+is-row64 (suc (suc (suc (suc (suc (suc zero)))))) p q f g = refl
+is-row64 (suc (suc (suc (suc (suc (suc (suc v))))))) p q f g = absurd (omega arith)

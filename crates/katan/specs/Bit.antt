@@ -1,7 +1,7 @@
 -- Bits as the numbers 0 and 1; numbers in bytes.
 -- Assumes nothing.
 use Prim.Native.Nat.{ℕ, zero, suc, _+_, _*_, _/_, _%_, _^_, _<_}
-use lib.Bits.{bitXor, bitAnd}
+use lib.Bits.{bitXor, bitAnd, bitOr}
 use mathlib.Core.Bool.{Bool, true, false}
 use mathlib.Core.List.{List, [], _∷_}
 use lib.ListN.{getD}
@@ -15,6 +15,9 @@ xor a b = bitXor a b
 
 abbrev pub and : ℕ → ℕ → ℕ
 and a b = bitAnd a b
+
+abbrev pub or : ℕ → ℕ → ℕ
+or a b = bitOr a b
 
 abbrev pub pick : {A : Type 0} → Bool → A → A → A
 pick true a b = a

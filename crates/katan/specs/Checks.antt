@@ -10,7 +10,7 @@ use Rattle.katan.specs.Sizes.{keyBytes}
 use Rattle.katan.specs.Counter.{rounds}
 use Rattle.katan.specs.Variant.{widthOf}
 use Rattle.katan.specs.declared.Refusal.{Refusal}
-use Rattle.katan.specs.declared.Refusal.the-variants.{BadVariant, BadLength, BadKind, FieldNotZero, BadLane, BadPosition, BadBlock, EmptyMask, OutOfTurn, OtherBytes, EmptyLane, BadRate, BadForm, BeyondEnd, BadClock}
+use Rattle.katan.specs.declared.Refusal.the-variants.{BadVariant, BadLength, BadKind, FieldNotZero, BadLane, BadPosition, BadBlock, EmptyMask, OutOfTurn, OtherBytes, EmptyLane, BadRate, BadForm, BeyondEnd, BadClock, Contradiction}
 
 -- the number of each refusal: document 02's from 14 on
 abbrev pub numberOf : Refusal → ℕ
@@ -29,6 +29,7 @@ numberOf BadRate = 12
 numberOf BadForm = 13
 numberOf BeyondEnd = 14
 numberOf BadClock = 15
+numberOf Contradiction = 16
 
 -- what a call answers: a value, or a refusal's number
 pub data Outcome (A : Type 0) : Type 0 where

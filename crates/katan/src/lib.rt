@@ -85,6 +85,7 @@ pub enum Refusal {
     BadForm,
     BeyondEnd,
     BadClock,
+    Contradiction,
 }
 
 // What a call for a variant's row answers.

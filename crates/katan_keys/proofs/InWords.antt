@@ -7,9 +7,9 @@ use native.Mathlib.Omega.{arith}
 use lib.Bits.{bitOr, or-shifted}
 use lib.Pow.{pow-pos, pow-add, pow-mono, shl-exact, shl-lt, shr-lt, split, mod-pow-add, high, low}
 use Rattle.katan.specs.Bit.{xor}
-use Rattle.katan.specs.Key.{keyLength, kRule}
+use Rattle.katan.specs.Key.{keyLength}
 use Rattle.katan.proofs.Bits.{one-shifted, joined-lt}
-use Rattle.katan_keys.specs.Window.{longestStep, ahead, behind}
+use Rattle.katan_keys.specs.Window.{longestStep, slid, ahead, behind}
 use Rattle.katan_keys.proofs.Words.{low-same, lifted, from-low, from-high, shifted-down}
 
 -- any bits that enter at the top leave the high word a word
@@ -32,36 +32,34 @@ module _ (h c e : ℕ) (few : c ≤ longestStep) where
       omega (arith, entered, above, new)
 
 module _ (h l c : ℕ) (q : l < 2 ^ 64) (few : c ≤ longestStep) where
-  abbrev enters : ℕ
-  enters = xor (xor (xor l (l / 2 ^ 19)) (l / 2 ^ 30)) (h / 2 ^ 3)
-
-  -- the rule's bits come from the low word, and the nearest from the high word
-  rule-words : kRule xor (λ j. (h * 2 ^ 64 + l) / 2 ^ j) keyLength % 2 ^ (2 * c) ≡ enters % 2 ^ (2 * c)
-  rule-words =
+  pub slid-words : (e : ℕ) → (h / 2 ^ (2 * c) + ((e % ((1 * 2 ^ (2 * c)) % 2 ^ 64)) * 2 ^ (16 - 2 * c)) % 2 ^ 64) * 2 ^ 64 + bitOr ((h * 2 ^ (64 - 2 * c)) % 2 ^ 64) (l / 2 ^ (2 * c)) ≡ slid c e (h * 2 ^ 64 + l)
+  unfolding slid
+  slid-words e =
       let s = 2 * c in
-      let x = h * 2 ^ 64 + l in
-      low-same s (x / 2 ^ 0) (x / 2 ^ 19) (x / 2 ^ 30) (x / 2 ^ 67) l (l / 2 ^ 19) (l / 2 ^ 30) (h / 2 ^ 3)
-      (from-low h q 0 s (omega arith) ∙ ap (λ (y : ℕ). y % 2 ^ s) (div-one l))
-      (from-low h q 19 s (omega arith))
-      (from-low h q 30 s (omega arith))
-      (ap (λ (y : ℕ). y % 2 ^ s) (from-high h q 3))
-
-  pub ahead-words : (h / 2 ^ (2 * c) + ((enters % ((1 * 2 ^ (2 * c)) % 2 ^ 64)) * 2 ^ (16 - 2 * c)) % 2 ^ 64) * 2 ^ 64 + bitOr ((h * 2 ^ (64 - 2 * c)) % 2 ^ 64) (l / 2 ^ (2 * c)) ≡ ahead c (h * 2 ^ 64 + l)
-  unfolding ahead
-  ahead-words =
-      let s = 2 * c in
-      let e : ℕ = enters % 2 ^ s in
+      let f : ℕ = e % 2 ^ s in
       let parts : 64 ≡ (64 - s) + s = omega arith in
       let small : l / 2 ^ s < 2 ^ (64 - s) = shr-lt (64 - s) s (rw (← parts) q) in
       let joined : bitOr ((h * 2 ^ (64 - s)) % 2 ^ 64) (l / 2 ^ s) ≡ (h % 2 ^ s) * 2 ^ (64 - s) + l / 2 ^ s
       = ap (λ (y : ℕ). bitOr y (l / 2 ^ s)) (lifted h s (omega arith)) ∙ or-shifted (h % 2 ^ s) (64 - s) (l / 2 ^ s) small in
       let place : (16 - s) + 64 ≡ keyLength - s = omega arith in
-      let top : e * 2 ^ (16 - s) * 2 ^ 64 ≡ e * 2 ^ (keyLength - s)
-      = mul-assoc e (2 ^ (16 - s)) (2 ^ 64) ∙ ap (e *_) (sym (pow-add 2 (16 - s) 64) ∙ ap (λ (n : ℕ). 2 ^ n) place) in
-      let rule : e * 2 ^ (keyLength - s) ≡ kRule xor (λ j. (h * 2 ^ 64 + l) / 2 ^ j) keyLength % 2 ^ s * 2 ^ (keyLength - s)
-      = ap (λ (y : ℕ). y * 2 ^ (keyLength - s)) (sym rule-words) in
-      ap (λ (y : ℕ). (h / 2 ^ s + y) * 2 ^ 64 + bitOr ((h * 2 ^ (64 - s)) % 2 ^ 64) (l / 2 ^ s)) (entered h c enters few)
-      ∙ omega (arith, add-mul (h / 2 ^ s) (e * 2 ^ (16 - s)) (2 ^ 64), joined, top, rule, shifted-down h q s (omega arith))
+      let top : f * 2 ^ (16 - s) * 2 ^ 64 ≡ f * 2 ^ (keyLength - s)
+      = mul-assoc f (2 ^ (16 - s)) (2 ^ 64) ∙ ap (f *_) (sym (pow-add 2 (16 - s) 64) ∙ ap (λ (n : ℕ). 2 ^ n) place) in
+      ap (λ (y : ℕ). (h / 2 ^ s + y) * 2 ^ 64 + bitOr ((h * 2 ^ (64 - s)) % 2 ^ 64) (l / 2 ^ s)) (entered h c e few)
+      ∙ omega (arith, add-mul (h / 2 ^ s) (f * 2 ^ (16 - s)) (2 ^ 64), joined, top, shifted-down h q s (omega arith))
+
+  -- the rule's bits come from the low word, and the nearest from the high word
+  pub ahead-words : slid c (xor (xor (xor l (l / 2 ^ 19)) (l / 2 ^ 30)) (h / 2 ^ 3)) (h * 2 ^ 64 + l) ≡ ahead c (h * 2 ^ 64 + l)
+  unfolding slid
+  ahead-words =
+      let s = 2 * c in
+      let x = h * 2 ^ 64 + l in
+      ap (λ (y : ℕ). y * 2 ^ (keyLength - s) + x / 2 ^ s)
+      (sym
+      (low-same s (x / 2 ^ 0) (x / 2 ^ 19) (x / 2 ^ 30) (x / 2 ^ 67) l (l / 2 ^ 19) (l / 2 ^ 30) (h / 2 ^ 3)
+      (from-low h q 0 s (omega arith) ∙ ap (λ (y : ℕ). y % 2 ^ s) (div-one l))
+      (from-low h q 19 s (omega arith))
+      (from-low h q 30 s (omega arith))
+      (ap (λ (y : ℕ). y % 2 ^ s) (from-high h q 3))))
 
 module _ (h l : ℕ) (q : l < 2 ^ 64) where
   abbrev returns : ℕ

@@ -15,7 +15,7 @@ use Rattle.katan.specs.Variant.{lastKatan}
 use Rattle.katan.specs.Clock.{inputOf}
 use Rattle.katan.proofs.Bits.{bit-mod, bit-below, bit-above, bit-shr, bit-xor, joined-lt, from-bits-lt, bit-from-bits, bits-equal, xor-undone}
 use Rattle.katan.proofs.Keys.{k-key, k-next, k-bit, katan-input}
-use Rattle.katan_keys.specs.Window.{longestStep, windowAt, ahead, behind, times, RunningWindow}
+use Rattle.katan_keys.specs.Window.{longestStep, windowAt, slid, ahead, behind, times, RunningWindow}
 
 -- ---- the window's bits
 
@@ -51,33 +51,51 @@ by-place P m low high i = place (leb m i) refl
     place true e = subst P (add-sub-of-le (leb-true m i e)) (high (i - m))
     place false e = low i (leb-false m i e)
 
+-- the bits of a window that slid on
+module _ (c e w : ℕ) (few : 2 * c ≤ keyLength) (h : w < 2 ^ keyLength) where
+  m : ℕ
+  m = keyLength - 2 * c
+
+  rest : w / 2 ^ (2 * c) < 2 ^ m
+  unfolding m
+  rest =
+      let parts : keyLength ≡ m + 2 * c = omega arith in
+      shr-lt m (2 * c) (subst (λ (x : ℕ). w < 2 ^ x) parts h)
+
+  pub slid-lt : slid c e w < 2 ^ keyLength
+  unfolding slid m
+  slid-lt =
+      let whole : 2 * c + m ≡ keyLength = omega arith in
+      subst (λ (x : ℕ). e % 2 ^ (2 * c) * 2 ^ m + w / 2 ^ (2 * c) < 2 ^ x) whole (joined-lt m (e % 2 ^ (2 * c)) rest (2 * c) (mod-lt _ (pow-pos (2 * c))))
+
+  -- by a rule of each place: those below come down, and those above enter
+  pub slid-bits : (f : ℕ → ℕ) → ((i : ℕ) → 2 * c + i < keyLength → bit w (2 * c + i) ≡ f i) → ((j : ℕ) → j < 2 * c → bit e j ≡ f (keyLength - 2 * c + j)) → (i : ℕ) → i < keyLength → bit (slid c e w) i ≡ f i
+  unfolding slid m
+  slid-bits f low high =
+      by-place (λ i. i < keyLength → bit (slid c e w) i ≡ f i) m
+      (λ i q r. bit-below m (e % 2 ^ (2 * c)) rest i q ∙ bit-shr w (2 * c) i ∙ low i (omega arith))
+      (λ j r. bit-above m (e % 2 ^ (2 * c)) rest j ∙ bit-mod (2 * c) e j (omega arith) ∙ high j (omega arith))
+
 module _ (key p c : ℕ) (few : c ≤ longestStep) where
   -- the bits that enter at the top
-  entering : (j : ℕ) → j < 2 * c → bit (kRule xor (λ d. windowAt key p / 2 ^ d) keyLength % 2 ^ (2 * c)) j ≡ k key (2 * p + keyLength + j)
+  entering : (j : ℕ) → j < 2 * c → bit (kRule xor (λ d. windowAt key p / 2 ^ d) keyLength) j ≡ k key (2 * p + keyLength + j)
   entering j q =
       let w = windowAt key p in
       let at : (d : ℕ) → d ≤ 67 → bit w (d + j) ≡ k key (2 * p + keyLength + j - (80 - d))
       = λ d l. window-bit key p (d + j) (omega arith) ∙ ap (k key) (omega arith) in
-      bit-mod (2 * c) _ j q
-      ∙ four-bits 0 19 30 67 j w
+      four-bits 0 19 30 67 j w
       ∙ ap₂ xor (ap₂ xor (ap₂ xor (at 0 (omega arith)) (at 19 (omega arith))) (at 30 (omega arith))) (at 67 (omega arith))
       ∙ sym (k-next key (2 * p + keyLength + j) (omega arith))
 
   -- LAW: c rounds on from the window at p is the window at p + c
   pub ahead-window : ahead c (windowAt key p) ≡ windowAt key (p + c)
-  unfolding ahead
   ahead-window =
       let w = windowAt key p in
-      let m = keyLength - 2 * c in
-      let e = kRule xor (λ d. w / 2 ^ d) keyLength % 2 ^ (2 * c) in
-      let whole : 2 * c + m ≡ keyLength = omega arith in
-      let parts : keyLength ≡ m + 2 * c = omega arith in
-      let below : w / 2 ^ (2 * c) < 2 ^ m = shr-lt m (2 * c) (subst (λ (x : ℕ). w < 2 ^ x) parts (window-lt key p)) in
-      is-window key (p + c) _
-      (subst (λ (x : ℕ). e * 2 ^ m + w / 2 ^ (2 * c) < 2 ^ x) whole (joined-lt m e below (2 * c) (mod-lt _ (pow-pos (2 * c)))))
-      (by-place (λ i. i < keyLength → bit (e * 2 ^ m + w / 2 ^ (2 * c)) i ≡ k key (2 * (p + c) + i)) m
-      (λ i q r. bit-below m e below i q ∙ bit-shr w (2 * c) i ∙ window-bit key p (2 * c + i) (omega arith) ∙ ap (k key) (omega arith))
-      (λ j r. bit-above m e below j ∙ entering j (omega arith) ∙ ap (k key) (omega arith)))
+      let e = kRule xor (λ d. w / 2 ^ d) keyLength in
+      is-window key (p + c) (slid c e w) (slid-lt c e w (omega arith) (window-lt key p))
+      (slid-bits c e w (omega arith) (window-lt key p) (λ i. k key (2 * (p + c) + i))
+      (λ i q. window-bit key p (2 * c + i) q ∙ ap (k key) (omega arith))
+      (λ j q. entering j q ∙ ap (k key) (omega arith)))
 
   -- the bits that return at the bottom
   returning : (i : ℕ) → i < 2 * c → (w : ℕ) → w ≡ windowAt key (p + c)

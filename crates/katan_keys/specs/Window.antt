@@ -17,9 +17,13 @@ windowAt key p = fromBits (λ i. k key (2 * p + i)) keyLength
 abbrev pub longestStep : ℕ
 longestStep = 6
 
--- c rounds on: the lowest 2c bits leave, and the next 2c by the rule of k(i) enter at the top
-unfoldable pub ahead : (c w : ℕ) → ℕ
-ahead c w = kRule xor (λ j. w / 2 ^ j) keyLength % 2 ^ (2 * c) * 2 ^ (keyLength - 2 * c) + w / 2 ^ (2 * c)
+-- c rounds on: the lowest 2c bits leave, and the lowest 2c of e enter at the top
+unfoldable pub slid : (c e w : ℕ) → ℕ
+slid c e w = e % 2 ^ (2 * c) * 2 ^ (keyLength - 2 * c) + w / 2 ^ (2 * c)
+
+-- those that enter are the next 2c by the rule of k(i)
+abbrev pub ahead : (c w : ℕ) → ℕ
+ahead c w = slid c (kRule xor (λ j. w / 2 ^ j) keyLength) w
 
 -- c rounds back: the 2c bits that had left return at the bottom, k(i) = k(i + 80) xor k(i + 67) xor k(i + 30) xor k(i + 19)
 unfoldable pub behind : (c w : ℕ) → ℕ

@@ -4,7 +4,7 @@ ghost use mathlib.Core.Path.{_≡_};
 ghost use Prim.Native.Nat.{_≤_};
 ghost use Rattle.katan.specs.Bit.{bit};
 ghost use Rattle.katan.specs.Key.{keyNumber};
-ghost use Rattle.katan_keys.specs.Window.{windowNumber, longestStep, ahead as aheadOf, behind as behindOf, times, sourceAt, nextSource, previousSource};
+ghost use Rattle.katan_keys.specs.Window.{windowNumber, longestStep, slid, ahead as aheadOf, behind as behindOf, times, sourceAt, nextSource, previousSource};
 use katan::Key;
 use katan::RoundPosition;
 
@@ -18,17 +18,32 @@ pub struct Window {
 // The rounds of a step on the way to a position.
 const STRIDE: usize = 6;
 
-// The window c rounds on: its lowest bits leave, and those that follow by the rule enter at the top.
-fn ahead(c: usize, w: Window) -> Window
+// The window c rounds on, whatever enters: its lowest bits leave, and those of e enter at the top.
+fn slide_by(c: usize, w: Window, e: u64) -> Window
     requires { ⌜ (1 ≤ c) × (c ≤ longestStep) ⌝ }
-    ensures { λ r. ⌜ windowNumber r ≡ aheadOf c (windowNumber w) ⌝ }
+    ensures { λ r. ⌜ windowNumber r ≡ slid c e (windowNumber w) ⌝ }
 {
     let s = 2 * c;
-    let entering = (w.low ^ (w.low >> 19) ^ (w.low >> 30) ^ (w.high >> 3)) % (1 << s);
+    let entering = e % (1 << s);
     Window {
         low: (w.high << (64 - s)) | (w.low >> s),
         high: (w.high >> s) + (entering << (16 - s)),
     }
+}
+
+// A round on, with the two lowest bits of e.
+pub fn slide(w: Window, e: u64) -> Window
+    ensures { λ r. ⌜ windowNumber r ≡ slid 1 e (windowNumber w) ⌝ }
+{
+    slide_by(1, w, e)
+}
+
+// The window c rounds on: what enters follows by the rule.
+fn ahead(c: usize, w: Window) -> Window
+    requires { ⌜ (1 ≤ c) × (c ≤ longestStep) ⌝ }
+    ensures { λ r. ⌜ windowNumber r ≡ aheadOf c (windowNumber w) ⌝ }
+{
+    slide_by(c, w, w.low ^ (w.low >> 19) ^ (w.low >> 30) ^ (w.high >> 3))
 }
 
 // The window one round back: the bits that had left follow by the rule read backwards.
@@ -54,7 +69,8 @@ fn steps(n: usize, c: usize, w: Window) -> Window
     t
 }
 
-fn key_words(key: Key) -> Window
+// The key itself, in two words.
+pub fn key_words(key: Key) -> Window
     ensures { λ r. ⌜ windowNumber r ≡ keyNumber key ⌝ }
 {
     Window {

@@ -1,13 +1,16 @@
-// Numbers in bytes, low byte first; words copied; bits of words; and whether a number fits n bits.
+// Numbers and keys in bytes, low byte first; words copied; bits of words; whether a number fits n bits; a block and its two registers.
 ghost use mathlib.Core.Path.{_≡_};
-ghost use Prim.Native.Nat.{_<_, _^_};
+ghost use Prim.Native.Nat.{_<_, _%_, _^_};
 ghost use lib.Dec.{leb};
 ghost use lib.ListN.{getD, length, take};
 ghost use Rattle.katan.specs.Bit.{bit, numberIn, bytesOf};
-ghost use Rattle.katan.specs.Key.{keyOf};
+ghost use Rattle.katan.specs.Clock.{block, registers};
+ghost use Rattle.katan.specs.Key.{keyNumber, keyOf};
 ghost use Rattle.katan.specs.Lent.{fitted};
 ghost use Rattle.katan.specs.Sizes.{keyBytes};
 use katan::Key;
+use katan::Registers;
+use katan::Row;
 
 // The byte at a place, 0 past the end.
 pub fn byte_at(bytes: &[u8], i: usize) -> u8
@@ -58,6 +61,26 @@ pub fn put_number(x: u64, out: &mut [u8])
     }
 }
 
+fn write_key(key: Key, out: &mut [u8])
+    requires { ⌜ length (now out) ≡ keyBytes ⌝ }
+    ensures { λ r. ⌜ now (out .exit) ≡ bytesOf keyBytes (keyNumber key) ⌝ }
+{
+    put_number(key.low, &mut out[0..katan::WORD_BYTES]);
+    put_number(
+        key.high as u64,
+        &mut out[katan::WORD_BYTES..katan::KEY_BYTES],
+    );
+}
+
+// A key, into memory of 10 bytes.
+pub fn put_key(key: Key, out: &mut [u8])
+    ensures { λ r. ⌜ now (out .exit) ≡ fitted keyBytes (bytesOf keyBytes (keyNumber key)) (now (out .entry)) ⌝ }
+{
+    if out.len() == katan::KEY_BYTES {
+        write_key(key, out);
+    }
+}
+
 fn copy_words(words: &[u64], out: &mut [u64])
     requires { ⌜ length (now out) ≡ length (now words) ⌝ }
     ensures { λ r. ⌜ now (out .exit) ≡ now (words .entry) ⌝ }
@@ -105,5 +128,30 @@ pub fn too_wide(n: usize, x: u64) -> bool
         (1 << n) <= x
     } else {
         false
+    }
+}
+
+// L1 and L2 of a block.
+pub fn registers_of(row: Row, x: u64) -> Registers
+    ensures { λ r. ⌜ r ≡ registers row x ⌝ }
+{
+    if row.len2 < katan::WORD_BITS {
+        Registers {
+            l1: x >> row.len2,
+            l2: x % (1 << row.len2),
+        }
+    } else {
+        Registers { l1: 0, l2: x }
+    }
+}
+
+// The block of L1 and L2: what is too large for a word is cut off.
+pub fn block_of(row: Row, s: Registers) -> u64
+    ensures { λ r. ⌜ r ≡ block row s % 2 ^ 64 ⌝ }
+{
+    if row.len2 < katan::WORD_BITS {
+        std::num::wrapping_add_u64(s.l1 << row.len2, s.l2)
+    } else {
+        s.l2
     }
 }

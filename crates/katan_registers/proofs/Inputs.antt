@@ -3,14 +3,13 @@
 use mathlib.Core.Path.{_≡_, refl, sym, ap, ap₂, subst, _∙_}
 use mathlib.Core.Bool.{Bool, true, false}
 use mathlib.Core.List.{List}
-use mathlib.Core.Logic.{_⊎_, inl, inr, ⊎-elim}
-use Prim.Native.Nat.{ℕ, zero, suc, _+_, _*_, _^_, _<_, _≤_}
+use Prim.Native.Nat.{ℕ, _+_, _*_, _^_, _<_}
 use native.Mathlib.Omega.{arith}
 use borrow.Author.Tests.{leb-true, leb-false}
 use lib.ListN.{getD}
 use Rattle.katan.specs.Bit.{bit, pick, tabulate}
 use Rattle.katan.specs.Counter.{counter, irOf, rounds}
-use Rattle.katan.specs.Variant.{row32, row48, row64, rowOf, isKatan, lastKatan}
+use Rattle.katan.specs.Variant.{rowOf, isKatan, lastKatan}
 use Rattle.katan.specs.Key.{keyBitNumber}
 use Rattle.katan.specs.Clock.{clock, unclock, round, unround, run, unrun, registers, inputOf}
 use Rattle.katan.specs.inner.Within.{Sound, Bits, RegistersFit}
@@ -127,24 +126,3 @@ module _ (v key p w : ℕ) where
       by-kind : (b : Bool) → pick b (behind 1 (pick b (windowAt key (p + 1)) key)) (pick b (windowAt key (p + 1)) key) ≡ pick b (windowAt key p) key
       by-kind true = running-window .back key p 1 (omega arith)
       by-kind false = refl
-
--- ---- the row of a variant
-
-row-by-number : (row : Row) (v a b : ℕ) → row ≡ rowOf a → row ≡ rowOf b → (v ≡ a) ⊎ (v ≡ b) → row ≡ rowOf v
-row-by-number row v a b e f c = ⊎-elim (λ g. e ∙ ap rowOf (sym g)) (λ g. f ∙ ap rowOf (sym g)) c
-
-pub is-row32 : (v : ℕ) → (v ≡ 1) ⊎ (v ≡ 4) → row32 ≡ rowOf v
-is-row32 v c = row-by-number row32 v 1 4 refl refl c
-
-pub is-row48 : (v : ℕ) → (v ≡ 2) ⊎ (v ≡ 5) → row48 ≡ rowOf v
-is-row48 v c = row-by-number row48 v 2 5 refl refl c
-
-pub is-row64 : (v : ℕ) → 1 ≤ v → v ≤ 6 → ((v ≡ 1) ⊎ (v ≡ 4) → ⊥) → ((v ≡ 2) ⊎ (v ≡ 5) → ⊥) → row64 ≡ rowOf v
-is-row64 zero p q f g = absurd (omega arith)
-is-row64 (suc zero) p q f g = absurd (f (inl refl))
-is-row64 (suc (suc zero)) p q f g = absurd (g (inl refl))
-is-row64 (suc (suc (suc zero))) p q f g = refl
-is-row64 (suc (suc (suc (suc zero)))) p q f g = absurd (f (inr refl))
-is-row64 (suc (suc (suc (suc (suc zero))))) p q f g = absurd (g (inr refl))
-is-row64 (suc (suc (suc (suc (suc (suc zero)))))) p q f g = refl
-is-row64 (suc (suc (suc (suc (suc (suc (suc v))))))) p q f g = absurd (omega arith)

@@ -3,10 +3,10 @@ ghost use mathlib.Core.Path.{_≡_};
 ghost use Prim.Native.Nat.{_<_, _≤_, _^_, _-_};
 ghost use Rattle.katan.specs.Counter.{rounds};
 ghost use Rattle.katan.specs.Key.{keyNumber};
-ghost use Rattle.katan.specs.Clock.{round, unround, run, unrun, block, registers, inputOf};
+ghost use Rattle.katan.specs.Clock.{round, unround, run, unrun, registers, inputOf};
 ghost use Rattle.katan.specs.Variant.{row32, row48, row64, rowOf, widthOf};
 ghost use Rattle.katan.specs.Machine.{registersAt};
-ghost use Rattle.katan.specs.inner.Within.{Sound, Bits, RegistersFit};
+ghost use Rattle.katan.specs.inner.Within.{Bits, RegistersFit};
 ghost use Rattle.katan_keys.specs.Window.{windowNumber, nextSource, previousSource};
 ghost use Rattle.katan_registers.specs.inner.Tables.{Tables, inputFrom, tableInput, afterRound};
 use crate::clock::clock_of;
@@ -271,23 +271,6 @@ fn unrun_of(
     h.registers
 }
 
-fn registers_of(v: Row, x: u64) -> Registers
-    requires { ⌜ Sound v ⌝ }
-    ensures { λ r. ⌜ r ≡ registers v x ⌝ }
-{
-    Registers {
-        l1: x >> v.len2,
-        l2: x % (1 << v.len2),
-    }
-}
-
-fn block_of(v: Row, s: Registers) -> u64
-    requires { ⌜ Sound v × RegistersFit v s ⌝ }
-    ensures { λ r. ⌜ r ≡ block v s ⌝ }
-{
-    (s.l1 << v.len2) | s.l2
-}
-
 // The registers at one position of x loaded at another, with T of each round and KTANTAN's key bit numbers.
 pub fn by_tables(
     variant: u8,
@@ -302,10 +285,10 @@ pub fn by_tables(
     requires { ⌜ (1 ≤ variant) × (variant ≤ 6) × (row ≡ rowOf variant) × Tables (now counters) (now numbers) × (from .0 ≤ rounds) × (to .0 ≤ rounds) × (x < 2 ^ widthOf variant) ⌝ }
     ensures { λ r. ⌜ r ≡ registersAt variant (keyNumber key) (from .0) x (to .0) ⌝ }
 {
-    let s = registers_of(row, x);
+    let s = katan_numbers::registers_of(row, x);
     if from.0 <= to.0 {
-        block_of(row, run_of(variant, counters, numbers, key, from, to, s))
+        katan_numbers::block_of(row, run_of(variant, counters, numbers, key, from, to, s))
     } else {
-        block_of(row, unrun_of(variant, counters, numbers, key, from, to, s))
+        katan_numbers::block_of(row, unrun_of(variant, counters, numbers, key, from, to, s))
     }
 }

@@ -35,6 +35,7 @@ pub fn refusal_number(r: Refusal) -> u8
         Refusal::BadForm => 13,
         Refusal::BeyondEnd => 14,
         Refusal::BadClock => 15,
+        Refusal::Contradiction => 16,
     }
 }
 

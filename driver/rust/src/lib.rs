@@ -20,7 +20,7 @@ pub mod raw;
 
 /// The version of the calls that this crate was written for: it rises with every new call, and with
 /// every change of a call's parameters, its numbers or a layout.
-pub const VERSION: u32 = 7;
+pub const VERSION: u32 = 8;
 
 /// The version of the calls that the archive was built with.
 ///
@@ -45,9 +45,9 @@ pub enum Refusal {
     FieldNotZero = 4,
     /// The lane is over 63.
     BadLane = 5,
-    /// A load position is over 254, or a move count is 0 or over 254.
+    /// A position is over 254, or a move count is 0 or over 254.
     BadPosition = 6,
-    /// A block, or the start of a keystream, is 2^n or more.
+    /// A block, the start of a keystream, or either number of a smudged block is 2^n or more.
     BadBlock = 7,
     /// The mask of a move or clear, or of a screen, is 0.
     EmptyMask = 8,
@@ -64,6 +64,8 @@ pub enum Refusal {
     BeyondEnd = 14,
     /// The clock number is over 23.
     BadClock = 15,
+    /// A bit is known both as 0 and as 1, on one sheet or between two that are joined.
+    Contradiction = 16,
 }
 
 impl Refusal {
@@ -92,6 +94,7 @@ impl Refusal {
             12 => BadRate,
             14 => BeyondEnd,
             15 => BadClock,
+            16 => Contradiction,
             _ => return None,
         };
         Some(refusal)
@@ -259,6 +262,204 @@ pub fn origin(variant: u8, key: &[u8], block: u64, clock: u64) -> Result<Origin,
         looked_up,
     };
     checked(status, origin)
+}
+
+/// What is known of a block or of registers. A bit that is set in neither number is unknown.
+///
+/// ```
+/// use katan_bench::KnownBits;
+///
+/// // The lowest digit is smudged; the one above it is 6, which is 0110.
+/// let block = KnownBits::from_digits("0000006?").unwrap();
+/// assert_eq!(block, KnownBits { ones: 0x60, zeros: 0xffffff90 });
+/// let bits = [7, 6, 5, 4, 3].map(|i| block.bit(i));
+/// assert_eq!(bits, [Some(false), Some(true), Some(true), Some(false), None]);
+/// ```
+#[derive(Clone, Copy, Debug, PartialEq, Eq)]
+pub struct KnownBits {
+    /// The bits known as 1.
+    pub ones: u64,
+    /// The bits known as 0.
+    pub zeros: u64,
+}
+
+impl KnownBits {
+    /// A block from its hexadecimal digits, the most significant first, n/4 of them, with `?` for each
+    /// that nobody can read; of fewer digits the bits above are unknown. `None` if there are more than 16,
+    /// or if one is no digit.
+    pub fn from_digits(digits: &str) -> Option<KnownBits> {
+        if digits.len() > 16 {
+            return None;
+        }
+        let (ones, zeros) = known_digits(digits)?;
+        Some(KnownBits {
+            ones: ones as u64,
+            zeros: zeros as u64,
+        })
+    }
+
+    /// What is known of a bit of any number: `None` if it is unknown, or set in both numbers.
+    pub fn bit(&self, i: u32) -> Option<bool> {
+        let of = |number: u64| number.checked_shr(i).is_some_and(|rest| rest & 1 == 1);
+        known_bit(of(self.ones), of(self.zeros))
+    }
+}
+
+/// What is known of a key.
+#[derive(Clone, Copy, Debug, PartialEq, Eq)]
+pub struct KnownKey {
+    /// The key bits known as 1: key bit 8j + b is bit b of byte j.
+    pub ones: [u8; 10],
+    /// The key bits known as 0.
+    pub zeros: [u8; 10],
+}
+
+impl KnownKey {
+    /// A key from its 20 hexadecimal digits, the most significant first, which has key bits 79 to 76, with
+    /// `?` for each that nobody can read. `None` if there are more or fewer, or if one is no digit.
+    ///
+    /// ```
+    /// use katan_bench::KnownKey;
+    ///
+    /// let key = KnownKey::from_digits("?000000000000000000c").unwrap();
+    /// assert_eq!([0, 3, 75, 79].map(|i| key.bit(i)), [Some(false), Some(true), Some(false), None]);
+    /// ```
+    pub fn from_digits(digits: &str) -> Option<KnownKey> {
+        if digits.len() != 20 {
+            return None;
+        }
+        let bytes = |number: u128| std::array::from_fn(|j| (number >> (8 * j)) as u8);
+        let (ones, zeros) = known_digits(digits)?;
+        Some(KnownKey {
+            ones: bytes(ones),
+            zeros: bytes(zeros),
+        })
+    }
+
+    /// What is known of a key bit of any number: `None` if it is unknown, or set in both parts.
+    pub fn bit(&self, i: usize) -> Option<bool> {
+        let of = |part: &[u8; 10]| part.get(i / 8).is_some_and(|byte| byte >> (i % 8) & 1 == 1);
+        known_bit(of(&self.ones), of(&self.zeros))
+    }
+}
+
+fn known_bit(one: bool, zero: bool) -> Option<bool> {
+    (one != zero).then_some(one)
+}
+
+/// The bits known as 1 and those known as 0, of up to 32 digits.
+fn known_digits(digits: &str) -> Option<(u128, u128)> {
+    digits.chars().try_fold((0, 0), |(ones, zeros), digit| {
+        let (one, zero) = match digit {
+            '?' => (0, 0),
+            _ => digit.to_digit(16).map(|value| (value, 15 - value))?,
+        };
+        Some((ones << 4 | u128::from(one), zeros << 4 | u128::from(zero)))
+    })
+}
+
+/// What can be read of a block and its key.
+#[derive(Clone, Copy, Debug, PartialEq, Eq)]
+pub struct Sheet {
+    pub block: KnownBits,
+    pub key: KnownKey,
+}
+
+impl Sheet {
+    /// A sheet from the digits of [`KnownBits::from_digits`] and [`KnownKey::from_digits`].
+    pub fn from_digits(block: &str, key: &str) -> Option<Sheet> {
+        Some(Sheet {
+            block: KnownBits::from_digits(block)?,
+            key: KnownKey::from_digits(key)?,
+        })
+    }
+
+    fn parts(&self) -> raw::Parts<'_> {
+        raw::Parts {
+            ones: self.block.ones,
+            zeros: self.block.zeros,
+            key_ones: &self.key.ones,
+            key_zeros: &self.key.zeros,
+        }
+    }
+}
+
+/// Runs rounds on a sheet, from position 0, where its block stands in the registers, to a position: what is
+/// known of the registers there.
+///
+/// Xor with an unknown bit is unknown. 0 times anything is 0, and any other product with an unknown bit is
+/// unknown. So each bit that is known is the one that the cipher gives however the unknown bits are filled
+/// in. An unknown bit is not traced to where it came from: two that are always equal do not cancel. A sheet
+/// that knows more loses and alters no known bit, and one that knows all gives all of the registers.
+///
+/// The checks are 1, 6, 7, 16, in this order.
+///
+/// ```
+/// use katan_bench::{smudged, KnownBits, Refusal, Sheet};
+///
+/// // A key of ones and a block of zeros, of which the third digit cannot be read. L1 is the high 13 bits.
+/// let sheet = Sheet::from_digits("00?00000", "ffffffffffffffffffff").unwrap();
+/// // In the first round x5, which is bit 22, is among the smudged bits, and IR is 1: fa, which enters at
+/// // bit 0, is unknown. What enters at bit 19 is made from L2, where all is known. The digit has moved up.
+/// let first = smudged(1, &sheet, 1)?;
+/// assert_eq!(first, KnownBits { ones: 0x00080000, zeros: 0xfe17fffe });
+/// assert_eq!([0, 19, 20, 24, 25].map(|i| first.bit(i)), [None, Some(true), Some(false), None, Some(false)]);
+///
+/// // After 40 rounds nothing is left. Without the smudge there is the ciphertext.
+/// assert_eq!(smudged(1, &sheet, 40)?, KnownBits { ones: 0, zeros: 0 });
+/// let clear = Sheet::from_digits("00000000", "ffffffffffffffffffff").unwrap();
+/// assert_eq!(smudged(1, &clear, 254)?, KnownBits { ones: 0x7e1ff945, zeros: !0x7e1ff945 & 0xffffffff });
+///
+/// assert_eq!(smudged(1, &sheet, 255), Err(Refusal::BadPosition));
+/// let both = Sheet { block: KnownBits { ones: 3, zeros: 1 }, ..sheet };
+/// assert_eq!(smudged(1, &both, 254), Err(Refusal::Contradiction));
+/// # Ok::<(), Refusal>(())
+/// ```
+pub fn smudged(variant: u8, sheet: &Sheet, position: u64) -> Result<KnownBits, Refusal> {
+    let mut out = [0; 2];
+    let status = raw::smudged(variant, sheet.parts(), position, &mut out);
+    let [ones, zeros] = out;
+    checked(status, KnownBits { ones, zeros })
+}
+
+/// Joins two sheets of one block and key: a bit is known where either knows it. The order does not matter.
+///
+/// The checks are 1, 7, 16, in this order.
+///
+/// ```
+/// use katan_bench::{join, Refusal, Sheet};
+///
+/// // Two students copied one block, and each sheet has a smudge.
+/// let first = Sheet::from_digits("0123456?", "ffff????ffffffffffff").unwrap();
+/// let second = Sheet::from_digits("?1234567", "ffffffffffffffffff??").unwrap();
+/// let joined = join(1, &first, &second)?;
+/// assert_eq!(Some(joined), Sheet::from_digits("01234567", "ffffffffffffffffffff"));
+///
+/// // The third sheet has another last digit of the key. On the second sheet that digit is smudged.
+/// let third = Sheet::from_digits("0123456?", "fffffffffffffffffff0").unwrap();
+/// assert_eq!(join(1, &first, &third), Err(Refusal::Contradiction));
+/// assert!(join(1, &second, &third).is_ok());
+/// # Ok::<(), Refusal>(())
+/// ```
+pub fn join(variant: u8, sheet: &Sheet, other: &Sheet) -> Result<Sheet, Refusal> {
+    let (mut out, mut key_out) = ([0; 2], [0; 20]);
+    let status = raw::join(
+        variant,
+        sheet.parts(),
+        other.parts(),
+        &mut out,
+        &mut key_out,
+    );
+    let [ones, zeros] = out;
+    let part = |from: usize| std::array::from_fn(|j| key_out[from + j]);
+    let joined = Sheet {
+        block: KnownBits { ones, zeros },
+        key: KnownKey {
+            ones: part(0),
+            zeros: part(10),
+        },
+    };
+    checked(status, joined)
 }
 
 /// The cycles that blocks take: 255 for each, one for loading and its 254 rounds.
@@ -663,7 +864,7 @@ mod tests {
     fn each_number_is_of_its_refusal() {
         for number in 0..=u8::MAX {
             let found = Refusal::from_number(number).map(Refusal::number);
-            let given = matches!(number, 1..=12 | 14 | 15);
+            let given = matches!(number, 1..=12 | 14..=16);
             assert_eq!(found, given.then_some(number));
         }
     }

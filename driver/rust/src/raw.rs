@@ -73,6 +73,37 @@ mod c {
             out: *mut u64,
             out_length: usize,
         ) -> u8;
+        pub fn katan_smudged(
+            variant: u8,
+            ones: u64,
+            zeros: u64,
+            key_ones: *const u8,
+            key_ones_length: usize,
+            key_zeros: *const u8,
+            key_zeros_length: usize,
+            position: u64,
+            out: *mut u64,
+            out_length: usize,
+        ) -> u8;
+        pub fn katan_join(
+            variant: u8,
+            ones: u64,
+            zeros: u64,
+            key_ones: *const u8,
+            key_ones_length: usize,
+            key_zeros: *const u8,
+            key_zeros_length: usize,
+            other_ones: u64,
+            other_zeros: u64,
+            other_key_ones: *const u8,
+            other_key_ones_length: usize,
+            other_key_zeros: *const u8,
+            other_key_zeros_length: usize,
+            out: *mut u64,
+            out_length: usize,
+            key_out: *mut u8,
+            key_out_length: usize,
+        ) -> u8;
         pub fn katan_cycles(blocks: u32) -> u64;
         pub fn katan_bit_rate(variant: u8, hertz: u64, out: *mut u64, out_length: usize) -> u8;
         pub fn katan_open(
@@ -220,6 +251,59 @@ pub fn origin(variant: u8, key: &[u8], block: u64, clock: u64, out: &mut [u64]) 
             clock,
             out.as_mut_ptr(),
             out.len(),
+        )
+    }
+}
+
+/// A sheet in its four parts: the bits known as 1 and those known as 0, of the block and of the key.
+#[derive(Clone, Copy, Debug, PartialEq, Eq)]
+pub struct Parts<'a> {
+    pub ones: u64,
+    pub zeros: u64,
+    pub key_ones: &'a [u8],
+    pub key_zeros: &'a [u8],
+}
+
+/// The output is the bits of the registers known as 1, then those known as 0.
+pub fn smudged(variant: u8, sheet: Parts, position: u64, out: &mut [u64]) -> u8 {
+    unsafe {
+        c::katan_smudged(
+            variant,
+            sheet.ones,
+            sheet.zeros,
+            sheet.key_ones.as_ptr(),
+            sheet.key_ones.len(),
+            sheet.key_zeros.as_ptr(),
+            sheet.key_zeros.len(),
+            position,
+            out.as_mut_ptr(),
+            out.len(),
+        )
+    }
+}
+
+/// The outputs are the block's bits known as 1, then those known as 0, and in 20 bytes the same of the
+/// key.
+pub fn join(variant: u8, sheet: Parts, other: Parts, out: &mut [u64], key_out: &mut [u8]) -> u8 {
+    unsafe {
+        c::katan_join(
+            variant,
+            sheet.ones,
+            sheet.zeros,
+            sheet.key_ones.as_ptr(),
+            sheet.key_ones.len(),
+            sheet.key_zeros.as_ptr(),
+            sheet.key_zeros.len(),
+            other.ones,
+            other.zeros,
+            other.key_ones.as_ptr(),
+            other.key_ones.len(),
+            other.key_zeros.as_ptr(),
+            other.key_zeros.len(),
+            out.as_mut_ptr(),
+            out.len(),
+            key_out.as_mut_ptr(),
+            key_out.len(),
         )
     }
 }

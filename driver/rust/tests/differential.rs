@@ -1,5 +1,5 @@
-//! Every function of the driver, but for the keystream, the origin of bits and the screen, against the
-//! independent model, on sound and damaged input.
+//! Every function of the driver, but for the keystream, the origin of bits, smudged sheets and the screen,
+//! against the independent model, on sound and damaged input.
 
 mod common;
 

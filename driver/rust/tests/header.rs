@@ -42,6 +42,7 @@ fn statuses_and_lengths() {
         ("KATAN_BAD_RATE", Refusal::BadRate),
         ("KATAN_BEYOND_END", Refusal::BeyondEnd),
         ("KATAN_BAD_CLOCK", Refusal::BadClock),
+        ("KATAN_CONTRADICTION", Refusal::Contradiction),
     ];
     for (name, refusal) in refusals {
         assert_eq!(names[name], usize::from(refusal.number()), "{name}");
@@ -72,6 +73,26 @@ fn statuses_and_lengths() {
     let words = names["KATAN_ORIGIN_WORDS"];
     let status = |length| raw::origin(1, &key, 0, last, &mut vec![7; length]);
     assert_eq!([words - 1, words, words + 1].map(status), [2, 0, 2]);
+    let last = names["KATAN_ROUNDS"] as u64;
+    let words = names["KATAN_SMUDGED_WORDS"];
+    let sheet = raw::Parts {
+        ones: 0,
+        zeros: 0,
+        key_ones: &key,
+        key_zeros: &key,
+    };
+    let status = |position, length| raw::smudged(1, sheet, position, &mut vec![7; length]);
+    assert_eq!([last, last + 1].map(|p| status(p, words)), [0, 6]);
+    assert_eq!([words - 1, words + 1].map(|n| status(last, n)), [2, 2]);
+    let bytes = names["KATAN_JOINED_KEY_LENGTH"];
+    assert_eq!(bytes, 2 * key.len());
+    let status =
+        |words, bytes| raw::join(1, sheet, sheet, &mut vec![7; words], &mut vec![7; bytes]);
+    assert_eq!(
+        [words - 1, words, words + 1].map(|n| status(n, bytes)),
+        [2, 0, 2]
+    );
+    assert_eq!([bytes - 1, bytes + 1].map(|n| status(words, n)), [2, 2]);
     let bench = Bench::open(1).unwrap();
     let bench = bench.bytes().0;
     let lanes = names["KATAN_LANES"];

@@ -7,8 +7,7 @@ use lib.ListN.{length}
 use Rattle.bench_record.specs.Fields.{recordLength}
 use Rattle.driver_layout.specs.Layout.{numberBytes, linkBytes}
 use Rattle.katan.proofs.Numbers.{length-bytes}
-use Rattle.katan_numbers.proofs.Written.{in-bytes}
-use Rattle.driver_layout.proofs.Turns.{three-parts}
+use Rattle.katan_numbers.proofs.Written.{in-bytes, three-parts}
 use borrow.Author.Needs.{needs}
 use Rattle.driver_layout.proofs.write_link.Statement.{statement}
 use Rattle.driver_layout.proofs.write_link.Tie as tie

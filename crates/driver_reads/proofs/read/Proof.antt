@@ -6,7 +6,8 @@ use Rattle.bench.specs.declared.Bench.{Bench}
 use Rattle.bench.specs.Bench.{readOf}
 use Rattle.driver_layout.proofs.Fitted.{bench-read}
 use Rattle.driver_reads.specs.Calls.{responseWords, readCall}
-use Rattle.driver_reads.proofs.Held.{held, same-answer}
+use Rattle.katan.proofs.Lent.{same-answer}
+use Rattle.driver_reads.proofs.Held.{held}
 use borrow.Author.Needs.{needs}
 use Rattle.driver_reads.proofs.read.Statement.{statement}
 use Rattle.driver_reads.proofs.read.Tie as tie

@@ -56,6 +56,9 @@ enum-told-14 c = search needs
 enum-told-15 : tie.Need-enum-told-15
 enum-told-15 c = search needs
 
+enum-told-16 : tie.Need-enum-told-16
+enum-told-16 c = search needs
+
 returns : tie.Need-returns
 returns c = known (c .enum-told .given .1)
 
@@ -101,6 +104,9 @@ returns-14 c = known (c .enum-told14 .given .1)
 returns-15 : tie.Need-returns-15
 returns-15 c = known (c .enum-told15 .given .1)
 
+returns-16 : tie.Need-returns-16
+returns-16 c = known (c .enum-told16 .given .1)
+
 pub refusal-number-spec : {M : Type 1} → statement M
 refusal-number-spec =
     tie.close
@@ -120,6 +126,7 @@ refusal-number-spec =
     enum-told-13
     enum-told-14
     enum-told-15
+    enum-told-16
     returns
     returns-2
     returns-3
@@ -134,4 +141,5 @@ refusal-number-spec =
     returns-12
     returns-13
     returns-14
-    returns-15)
+    returns-15
+    returns-16)

@@ -1,6 +1,5 @@
 use Prim.Native.Nat.{_<_}
-use Rattle.katan.proofs.Bits.{bit-lt, xor-bit, fa-rest-bit, fb-rest-bit}
-use Rattle.katan_registers.proofs.Words.{room}
+use Rattle.katan.proofs.Bits.{room, bit-lt, xor-bit, fa-rest-bit, fb-rest-bit}
 use borrow.Author.Needs.{needs}
 use Rattle.katan_registers.proofs.clock.clock_of.Statement.{statement}
 use Rattle.katan_registers.proofs.clock.clock_of.Tie as tie

@@ -1,0 +1,11 @@
+pub mod Lengths
+pub mod Blocks
+pub mod Related
+pub mod Agrees
+pub mod Plain
+pub mod Sheets
+pub mod Fillings
+pub mod Exact
+pub mod Clashes
+pub mod Refusals
+pub mod Theorems
