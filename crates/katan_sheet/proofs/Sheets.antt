@@ -130,6 +130,40 @@ fills-both n x k l f g =
       has-zeros = λ i q e. or-cases (bit x i ≡ 0) (bit (k .zeros) i) (bit (l .zeros) i) (bit-lt (k .zeros) i) (f .has-zeros i q) (g .has-zeros i q) (sym (bit-or (k .zeros) (l .zeros) i) ∙ e);
     }
 
+-- single bits that either knows, both ways
+four-ways : (a b c d : ℕ) → a < 2 → b < 2 → c < 2 → d < 2 → and (or a c) (or b d) ≡ or (or (and a b) (and c d)) (or (and a d) (and c b))
+four-ways zero b zero d p q r s = refl
+four-ways zero zero (suc zero) zero p q r s = refl
+four-ways zero zero (suc zero) (suc zero) p q r s = refl
+four-ways zero zero (suc zero) (suc (suc d)) p q r s = absurd (omega arith)
+four-ways zero (suc zero) (suc zero) zero p q r s = refl
+four-ways zero (suc zero) (suc zero) (suc zero) p q r s = refl
+four-ways zero (suc zero) (suc zero) (suc (suc d)) p q r s = absurd (omega arith)
+four-ways zero (suc (suc b)) (suc zero) d p q r s = absurd (omega arith)
+four-ways zero b (suc (suc c)) d p q r s = absurd (omega arith)
+four-ways (suc zero) zero zero zero p q r s = refl
+four-ways (suc zero) zero zero (suc zero) p q r s = refl
+four-ways (suc zero) zero zero (suc (suc d)) p q r s = absurd (omega arith)
+four-ways (suc zero) (suc zero) zero zero p q r s = refl
+four-ways (suc zero) (suc zero) zero (suc zero) p q r s = refl
+four-ways (suc zero) (suc zero) zero (suc (suc d)) p q r s = absurd (omega arith)
+four-ways (suc zero) (suc (suc b)) zero d p q r s = absurd (omega arith)
+four-ways (suc zero) zero (suc zero) zero p q r s = refl
+four-ways (suc zero) zero (suc zero) (suc zero) p q r s = refl
+four-ways (suc zero) zero (suc zero) (suc (suc d)) p q r s = absurd (omega arith)
+four-ways (suc zero) (suc zero) (suc zero) zero p q r s = refl
+four-ways (suc zero) (suc zero) (suc zero) (suc zero) p q r s = refl
+four-ways (suc zero) (suc zero) (suc zero) (suc (suc d)) p q r s = absurd (omega arith)
+four-ways (suc zero) (suc (suc b)) (suc zero) d p q r s = absurd (omega arith)
+four-ways (suc zero) b (suc (suc c)) d p q r s = absurd (omega arith)
+four-ways (suc (suc a)) b c d p q r s = absurd (omega arith)
+
+pub clashes : (k l : KnownBits) (i : ℕ) → and (bit (joined k l .ones) i) (bit (joined k l .zeros) i)
+    ≡ or (or (and (bit (k .ones) i) (bit (k .zeros) i)) (and (bit (l .ones) i) (bit (l .zeros) i))) (or (and (bit (k .ones) i) (bit (l .zeros) i)) (and (bit (l .ones) i) (bit (k .zeros) i)))
+clashes k l i =
+    ap₂ and (bit-or (k .ones) (l .ones) i) (bit-or (k .zeros) (l .zeros) i)
+    ∙ four-ways (bit (k .ones) i) (bit (k .zeros) i) (bit (l .ones) i) (bit (l .zeros) i) (bit-lt (k .ones) i) (bit-lt (k .zeros) i) (bit-lt (l .ones) i) (bit-lt (l .zeros) i)
+
 -- a filling of a sheet that knows more is one of a sheet that knows less
 pub fills-less : (n x : ℕ) (k l : KnownBits) → Keeps n k l → Fills n l x → Fills n k x
 fills-less n x k l s f =

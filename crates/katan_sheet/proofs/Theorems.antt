@@ -19,7 +19,7 @@ use Rattle.katan_sheet.specs.Sheet.{smudgedAt, joined, contradicts}
 use Rattle.katan_sheet.specs.Answers.{keyGiven, keyPartsCheck, blockPartsCheck, contradictionCheck, smudgedAnswer, joinAnswer}
 use Rattle.katan_sheet.specs.Claim.{Smudges}
 use Rattle.katan_sheet.specs.declared.KnownBits.{KnownBits}
-use Rattle.katan_sheet.proofs.Sheets.{ones-in, zeros-in, consistent, sheet, fillable, keeps-join, keeps-join′, fills-both, fills-less}
+use Rattle.katan_sheet.proofs.Sheets.{ones-in, zeros-in, consistent, sheet, fillable, keeps-join, keeps-join′, clashes, fills-both, fills-less}
 use Rattle.katan_sheet.proofs.Fillings.{shown, filled, kept}
 use Rattle.katan_sheet.proofs.Exact.{exact, first}
 use Rattle.katan_sheet.proofs.Refusals.{first-wide, second-wide, joint-clash}
@@ -116,6 +116,7 @@ smudges =
       either-zeros = λ k l i. bit-or (k .zeros) (l .zeros) i;
       both-ways = λ k l. ap₂ sheet (or-comm (k .ones) (l .ones)) (or-comm (k .zeros) (l .zeros));
       with-itself = λ k. ap₂ sheet (or-self (k .ones)) (or-self (k .zeros));
+      clashes = clashes;
       fills-both = fills-both;
       fills-each = λ n x k l f. (fills-less n x k (joined k l) (keeps-join n k l) f, fills-less n x l (joined k l) (keeps-join′ n k l) f);
       run-joined = λ v p key block key′ block′ ck cb. (

@@ -5,7 +5,7 @@ use mathlib.Core.Path.{_≡_}
 use mathlib.Core.Bool.{true, false, _||_}
 use mathlib.Core.List.{List}
 use lib.ListN.{length}
-use Rattle.katan.specs.Bit.{bit, or}
+use Rattle.katan.specs.Bit.{bit, and, or}
 use Rattle.katan.specs.Checks.{value, refused}
 use Rattle.katan.specs.Key.{keyLength}
 use Rattle.katan.specs.Machine.{registersAt}
@@ -51,6 +51,9 @@ pub record Smudges : Type 0 where
   pub either-zeros : (k l : KnownBits) (i : ℕ) → bit (joined k l .zeros) i ≡ or (bit (k .zeros) i) (bit (l .zeros) i)
   pub both-ways : (k l : KnownBits) → joined k l ≡ joined l k
   pub with-itself : (k : KnownBits) → joined k k ≡ k
+  -- a bit of it is known both ways exactly where it is so on one of the two, or between them
+  pub clashes : (k l : KnownBits) (i : ℕ) → and (bit (joined k l .ones) i) (bit (joined k l .zeros) i)
+      ≡ or (or (and (bit (k .ones) i) (bit (k .zeros) i)) (and (bit (l .ones) i) (bit (l .zeros) i))) (or (and (bit (k .ones) i) (bit (l .zeros) i)) (and (bit (l .ones) i) (bit (k .zeros) i)))
   -- its fillings are those that both have
   pub fills-both : (n x : ℕ) (k l : KnownBits) → Fills n k x → Fills n l x → Fills n (joined k l) x
   pub fills-each : (n x : ℕ) (k l : KnownBits) → Fills n (joined k l) x → Fills n k x × Fills n l x
