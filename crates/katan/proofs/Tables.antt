@@ -3,16 +3,15 @@
 use mathlib.Core.Path.{_≡_, refl, sym, ap, ap₂, subst, _∙_}
 use mathlib.Core.Bool.{Bool, true, false}
 use mathlib.Core.List.{List, [], _∷_}
-use Prim.Native.Nat.{ℕ, zero, suc, _+_, _*_, _/_, _%_, _<_}
+use Prim.Native.Nat.{ℕ, zero, suc, _+_, _-_, _*_, _/_, _%_, _^_, _<_, _≤_}
 use native.Mathlib.Nat.{add-zero, zero-add, add-suc, suc-add, le-of-suc-le-suc, not-suc-le-zero}
 use native.Mathlib.Omega.{arith}
-use lib.Bits.{xor-lt}
 use lib.Dec.{T, eqb, ltb, ltb→lt}
 use lib.ListN.{length, getD}
-use Rattle.katan.specs.Bit.{pick, tabulate}
-use Rattle.katan.specs.Counter.{tick, counter, rounds}
+use Rattle.katan.specs.Bit.{bit, xor, pick, tabulate}
+use Rattle.katan.specs.Counter.{tick, counter, irOf, rounds}
 use Rattle.katan.specs.Key.{keyLength, kaNumber, kbNumber, keyBitNumber}
-use Rattle.katan.proofs.Bits.{bit-lt}
+use Rattle.katan.proofs.Bits.{bit-lt, xor-bit, bit-mod, bit-suc}
 
 abbrev pub both : Bool → Bool → Bool
 both true b = b
@@ -62,6 +61,10 @@ abbrev ticks : ℕ → ℕ → List ℕ
 ticks t zero = []
 ticks t (suc n) = t ∷ ticks (tick t) n
 
+-- the bit that a tick brings in
+tapped : (t : ℕ) → xor (xor (xor (bit t 7) (bit t 6)) (bit t 4)) (bit t 2) < 2
+tapped t = xor-bit (xor-bit (xor-bit (bit-lt t 7) (bit-lt t 6)) (bit-lt t 4)) (bit-lt t 2)
+
 pub counters-rule : (r n : ℕ) → ticks (counter r) n ≡ tabulate counter r n
 counters-rule r zero = refl
 counters-rule r (suc n) = ap (λ (xs : List ℕ). counter r ∷ xs) (counters-rule (suc r) n)
@@ -78,6 +81,23 @@ kb-number r =
     let e : (2 * r + 1) % 2 ≡ 1 = omega arith in
     let d : (2 * r + 1) / 2 ≡ r = omega arith in
     rw (e, d)
+
+-- T shifts left: IR of the rounds after r stand below that of r in its T
+tick-bit : (t i : ℕ) → i < 7 → bit (tick t) (suc i) ≡ bit t i
+tick-bit t i h =
+    let b = xor (xor (xor (bit t 7) (bit t 6)) (bit t 4)) (bit t 2) in
+    let small : b < 2 = tapped t in
+    let half : (t * 2 % 256 + b) / 2 ≡ t % 2 ^ 7 = omega arith in
+    bit-suc (tick t) i ∙ ap (λ (x : ℕ). bit x i) half ∙ bit-mod 7 t i h
+
+pub ir-later : (r j : ℕ) → j ≤ 7 → bit (counter r) (7 - j) ≡ irOf (counter (r + j))
+ir-later r zero h = ap (λ (x : ℕ). irOf (counter x)) (sym (add-zero r))
+ir-later r (suc j) h =
+    let place : 7 - j ≡ suc (7 - suc j) = omega arith in
+    sym (tick-bit (counter r) (7 - suc j) (omega arith))
+    ∙ ap (bit (counter (suc r))) (sym place)
+    ∙ ir-later (suc r) j (omega arith)
+    ∙ ap (λ (x : ℕ). irOf (counter x)) (suc-add r j ∙ sym (add-suc r j))
 
 -- the key bit numbers of n rounds, from a round with T = t on
 abbrev numbers : ℕ → ℕ → List ℕ
@@ -99,9 +119,7 @@ numbers-rule r (suc n) =
 
 counter-below : (r : ℕ) → counter r < 256
 counter-below zero = omega arith
-counter-below (suc r) =
-    let t = counter r in
-    omega (arith, xor-lt 1 _ _ (xor-lt 1 _ _ (xor-lt 1 _ _ (bit-lt t 7) (bit-lt t 6)) (bit-lt t 4)) (bit-lt t 2))
+counter-below (suc r) = omega (arith, tapped (counter r))
 
 picks-below : ℕ → Bool
 picks-below t = both (ltb (kaNumber t) keyLength) (ltb (kbNumber t) keyLength)

@@ -8,9 +8,9 @@ use Prim.Native.Nat.{ℕ, zero, suc, _-_, _<_, _≤_}
 use native.Mathlib.Omega.{arith}
 use borrow.Author.Tests.{ltb-false, ltb-true, leb-true, lt-ltb, le-ltb, le-leb}
 use lib.Dec.{leb, ltb}
-use lib.ListN.{List·getD-eq-default}
+use lib.ListN.{getD, List·getD-eq-default}
 use Rattle.katan.specs.Bit.{pick}
-use Rattle.katan.specs.Variant.{row32, row48, row64, rows, rowOf}
+use Rattle.katan.specs.Variant.{row32, row48, row64, rows, rowOf, strideOf}
 use Rattle.katan.specs.Checks.{numberOf, value, refused, variantCheck}
 use Rattle.katan.specs.Rows.{rowOutcome, rowAnswer}
 use Rattle.katan.specs.declared.Row.{Row}
@@ -33,12 +33,15 @@ no-variant (suc (suc (suc (suc (suc (suc (suc v))))))) a b c d e f =
 pub over-six-or-none : (v : ℕ) → (v ≡ 1 → ⊥) → (v ≡ 2 → ⊥) → (v ≡ 3 → ⊥) → (v ≡ 4 → ⊥) → (v ≡ 5 → ⊥) → (v ≡ 6 → ⊥) → refused 1 ≡ rowAnswer v
 over-six-or-none v a b c d e f = sym (fault-first (variantCheck v) [] (value (rowOf v)) (no-variant v a b c d e f))
 
+past-rows : (v : ℕ) → 6 < v → row32 ≡ rowOf v
+past-rows v h = sym (List·getD-eq-default rows row32 {n = v - 1} (omega arith))
+
 -- a number that check 1 refuses has the first row
 pub first-row : (v : ℕ) → variantCheck v .fault ≡ true → row32 ≡ rowOf v
 first-row zero e = refl
 first-row (suc v) e =
     let h : 6 < suc v = ltb-true 6 (suc v) (rw (le-leb 1 (suc v) (omega arith)) at e) in
-    sym (List·getD-eq-default rows row32 {n = suc v - 1} (omega arith))
+    past-rows (suc v) h
 
 -- what it means that check 1 finds no fault
 pub record IsVariant (v : ℕ) (r : Row) : Type 0 where
@@ -79,18 +82,33 @@ row-refused v a r e f = failed (numberOf r) (rowOf v) (variantCheck v .fault) (a
 row-by-number : (row : Row) (v a b : ℕ) → row ≡ rowOf a → row ≡ rowOf b → (v ≡ a) ⊎ (v ≡ b) → row ≡ rowOf v
 row-by-number row v a b e f c = ⊎-elim (λ g. e ∙ ap rowOf (sym g)) (λ g. f ∙ ap rowOf (sym g)) c
 
-pub is-row32 : (v : ℕ) → (v ≡ 1) ⊎ (v ≡ 4) → row32 ≡ rowOf v
-is-row32 v c = row-by-number row32 v 1 4 refl refl c
-
 pub is-row48 : (v : ℕ) → (v ≡ 2) ⊎ (v ≡ 5) → row48 ≡ rowOf v
 is-row48 v c = row-by-number row48 v 2 5 refl refl c
 
-pub is-row64 : (v : ℕ) → 1 ≤ v → v ≤ 6 → ((v ≡ 1) ⊎ (v ≡ 4) → ⊥) → ((v ≡ 2) ⊎ (v ≡ 5) → ⊥) → row64 ≡ rowOf v
-is-row64 zero p q f g = absurd (omega arith)
-is-row64 (suc zero) p q f g = absurd (f (inl refl))
-is-row64 (suc (suc zero)) p q f g = absurd (g (inl refl))
-is-row64 (suc (suc (suc zero))) p q f g = refl
-is-row64 (suc (suc (suc (suc zero)))) p q f g = absurd (f (inr refl))
-is-row64 (suc (suc (suc (suc (suc zero))))) p q f g = absurd (g (inr refl))
-is-row64 (suc (suc (suc (suc (suc (suc zero)))))) p q f g = refl
-is-row64 (suc (suc (suc (suc (suc (suc (suc v))))))) p q f g = absurd (omega arith)
+pub is-row64 : (v : ℕ) → (v ≡ 3) ⊎ (v ≡ 6) → row64 ≡ rowOf v
+is-row64 v c = row-by-number row64 v 3 6 refl refl c
+
+-- every other number has the first row
+pub is-row32 : (v : ℕ) → ((v ≡ 2) ⊎ (v ≡ 5) → ⊥) → ((v ≡ 3) ⊎ (v ≡ 6) → ⊥) → row32 ≡ rowOf v
+is-row32 zero f g = refl
+is-row32 (suc zero) f g = refl
+is-row32 (suc (suc zero)) f g = absurd (f (inl refl))
+is-row32 (suc (suc (suc zero))) f g = absurd (g (inl refl))
+is-row32 (suc (suc (suc (suc zero)))) f g = refl
+is-row32 (suc (suc (suc (suc (suc zero))))) f g = absurd (f (inr refl))
+is-row32 (suc (suc (suc (suc (suc (suc zero)))))) f g = absurd (g (inr refl))
+is-row32 (suc (suc (suc (suc (suc (suc (suc v))))))) f g = past-rows (suc (suc (suc (suc (suc (suc (suc v))))))) (omega arith)
+
+-- ---- the rounds that are worked at once
+
+stride-at : (i : ℕ) → (1 ≤ strideOf (getD rows i row32)) × (strideOf (getD rows i row32) ≤ 4)
+stride-at zero = omega arith
+stride-at (suc zero) = omega arith
+stride-at (suc (suc zero)) = omega arith
+stride-at (suc (suc (suc zero))) = omega arith
+stride-at (suc (suc (suc (suc zero)))) = omega arith
+stride-at (suc (suc (suc (suc (suc zero))))) = omega arith
+stride-at (suc (suc (suc (suc (suc (suc i)))))) = omega arith
+
+pub strides : (v : ℕ) → (1 ≤ strideOf (rowOf v)) × (strideOf (rowOf v) ≤ 4)
+strides v = stride-at (v - 1)

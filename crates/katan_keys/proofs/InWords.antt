@@ -2,15 +2,15 @@
 -- Assumes nothing.
 use mathlib.Core.Path.{_≡_, sym, ap, ap₂, subst, _∙_}
 use Prim.Native.Nat.{ℕ, _+_, _-_, _*_, _/_, _%_, _^_, _<_, _≤_}
-use native.Mathlib.Nat.{add-mul, mul-assoc, div-one, mod-lt, lt-of-lt-of-le, add-mul-mod-self-right}
+use native.Mathlib.Nat.{add-assoc, add-mul, mul-assoc, div-one, mod-lt, lt-of-lt-of-le, lt-of-le-of-lt}
 use native.Mathlib.Omega.{arith}
-use lib.Bits.{bitOr, or-shifted}
-use lib.Pow.{pow-pos, pow-add, pow-mono, shl-exact, shl-lt, shr-lt, split, mod-pow-add, high, low}
+use lib.Bits.{bitOr, or-lt, or-shifted}
+use lib.Pow.{pow-pos, pow-add, pow-mono, shl-exact, shl-lt, shr-lt, shr-le, mod-pow-add, mod-mod-pow, high, low}
 use Rattle.katan.specs.Bit.{xor}
 use Rattle.katan.specs.Key.{keyLength}
 use Rattle.katan.proofs.Bits.{one-shifted, joined-lt}
 use Rattle.katan_keys.specs.Window.{longestStep, slid, ahead, behind}
-use Rattle.katan_keys.proofs.Words.{low-same, lifted, from-low, from-high, shifted-down}
+use Rattle.katan_keys.proofs.Words.{low-same, raised, lifted, stood-lower, from-low, from-high, shifted-down, shifted-up}
 
 -- any bits that enter at the top leave the high word a word
 module _ (h c e : ℕ) (few : c ≤ longestStep) where
@@ -40,7 +40,7 @@ module _ (h l c : ℕ) (q : l < 2 ^ 64) (few : c ≤ longestStep) where
       let parts : 64 ≡ (64 - s) + s = omega arith in
       let small : l / 2 ^ s < 2 ^ (64 - s) = shr-lt (64 - s) s (rw (← parts) q) in
       let joined : bitOr ((h * 2 ^ (64 - s)) % 2 ^ 64) (l / 2 ^ s) ≡ (h % 2 ^ s) * 2 ^ (64 - s) + l / 2 ^ s
-      = ap (λ (y : ℕ). bitOr y (l / 2 ^ s)) (lifted h s (omega arith)) ∙ or-shifted (h % 2 ^ s) (64 - s) (l / 2 ^ s) small in
+      = ap (λ (y : ℕ). bitOr y (l / 2 ^ s)) (lifted h s (64 - s) (omega arith)) ∙ or-shifted (h % 2 ^ s) (64 - s) (l / 2 ^ s) small in
       let place : (16 - s) + 64 ≡ keyLength - s = omega arith in
       let top : f * 2 ^ (16 - s) * 2 ^ 64 ≡ f * 2 ^ (keyLength - s)
       = mul-assoc f (2 ^ (16 - s)) (2 ^ 64) ∙ ap (f *_) (sym (pow-add 2 (16 - s) 64) ∙ ap (λ (n : ℕ). 2 ^ n) place) in
@@ -61,42 +61,85 @@ module _ (h l c : ℕ) (q : l < 2 ^ 64) (few : c ≤ longestStep) where
       (from-low h q 30 s (omega arith))
       (ap (λ (y : ℕ). y % 2 ^ s) (from-high h q 3))))
 
-module _ (h l : ℕ) (q : l < 2 ^ 64) where
-  abbrev returns : ℕ
-  returns = xor (xor (xor (h / 2 ^ 14) (h / 2 ^ 1)) (l / 2 ^ 28)) (l / 2 ^ 17) % 2 ^ 2
+-- c rounds back: the two words after the shift as the code has it, and the bits that return
+module _ (h l c : ℕ) (q : l < 2 ^ 64) (few : c ≤ longestStep) where
+  abbrev s : ℕ
+  s = 2 * c
 
-  abbrev down : ℕ → ℕ
-  down j = (h * 2 ^ 64 + l) / 2 ^ j
+  abbrev m : ℕ
+  m = 64 - s
 
-  rule-back : xor (xor (xor (down 78) (down 65)) (down 28)) (down 17) % 2 ^ 2 ≡ returns
+  abbrev low′ : ℕ
+  low′ = (l * 2 ^ s) % 2 ^ 64
+
+  abbrev high′ : ℕ
+  high′ = bitOr ((h * 2 ^ s) % 2 ^ 64) (l / 2 ^ m)
+
+  abbrev rule : ℕ
+  rule = xor (xor (xor (high′ / 2 ^ 16) (high′ / 2 ^ 3)) (low′ / 2 ^ 30)) (low′ / 2 ^ 19)
+
+  abbrev x : ℕ
+  x = h * 2 ^ 64 + l
+
+  parts : m + s ≡ 64
+  parts = omega arith
+
+  low-is : low′ ≡ (l % 2 ^ m) * 2 ^ s
+  low-is = lifted l m s parts
+
+  low-lt : low′ < 2 ^ 64
+  low-lt = mod-lt (l * 2 ^ s) (pow-pos 64)
+
+  high-is : high′ ≡ (h % 2 ^ m) * 2 ^ s + l / 2 ^ m
+  high-is =
+      let whole : 64 ≡ s + m = omega arith in
+      ap (λ (y : ℕ). bitOr y (l / 2 ^ m)) (lifted h m s parts) ∙ or-shifted (h % 2 ^ m) s (l / 2 ^ m) (shr-lt s m (rw (← whole) q))
+
+  high-lt : high′ < 2 ^ 64
+  high-lt = or-lt 64 ((h * 2 ^ s) % 2 ^ 64) (l / 2 ^ m) (mod-lt (h * 2 ^ s) (pow-pos 64)) (lt-of-le-of-lt (shr-le l m) q)
+
+  -- the high word, with what left it
+  abbrev up : ℕ
+  up = h / 2 ^ m * 2 ^ 64 + high′
+
+  moved-up : x * 2 ^ s ≡ up * 2 ^ 64 + low′
+  moved-up =
+      let whole : h * 2 ^ s + l / 2 ^ m ≡ up = omega (arith, raised h m s parts, high-is) in
+      shifted-up h q s m parts ∙ ap₂ (λ (y z : ℕ). y * 2 ^ 64 + z) whole (sym low-is)
+
+  -- the rule's bits come from the two words
+  rule-back : xor (xor (xor (x / 2 ^ (80 - s)) (x / 2 ^ (67 - s))) (x / 2 ^ (30 - s))) (x / 2 ^ (19 - s)) % 2 ^ s ≡ rule % 2 ^ s
   rule-back =
-      low-same 2 (down 78) (down 65) (down 28) (down 17) (h / 2 ^ 14) (h / 2 ^ 1) (l / 2 ^ 28) (l / 2 ^ 17)
-      (ap (λ (y : ℕ). y % 2 ^ 2) (from-high h q 14))
-      (ap (λ (y : ℕ). y % 2 ^ 2) (from-high h q 1))
-      (from-low h q 28 2 (omega arith))
-      (from-low h q 17 2 (omega arith))
+      let at : (j : ℕ) → s ≤ j → x / 2 ^ (j - s) ≡ (up * 2 ^ 64 + low′) / 2 ^ j = λ j r. stood-lower x s j r ∙ ap (λ (y : ℕ). y / 2 ^ j) moved-up in
+      let above : (i : ℕ) → s ≤ 64 + i → i + s ≤ 64 → x / 2 ^ (64 + i - s) % 2 ^ s ≡ high′ / 2 ^ i % 2 ^ s
+      = λ i r t. ap (λ (y : ℕ). y % 2 ^ s) (at (64 + i) r ∙ from-high up low-lt i) ∙ from-low (h / 2 ^ m) high-lt i s t in
+      let below : (j : ℕ) → s ≤ j → j + s ≤ 64 → x / 2 ^ (j - s) % 2 ^ s ≡ low′ / 2 ^ j % 2 ^ s
+      = λ j r t. ap (λ (y : ℕ). y % 2 ^ s) (at j r) ∙ from-low up low-lt j s t in
+      low-same s (x / 2 ^ (80 - s)) (x / 2 ^ (67 - s)) (x / 2 ^ (30 - s)) (x / 2 ^ (19 - s)) (high′ / 2 ^ 16) (high′ / 2 ^ 3) (low′ / 2 ^ 30) (low′ / 2 ^ 19)
+      (above 16 (omega arith) (omega arith))
+      (above 3 (omega arith) (omega arith))
+      (below 30 (omega arith) (omega arith))
+      (below 19 (omega arith) (omega arith))
 
-  pub behind-words : (bitOr ((h * 2 ^ 2) % 2 ^ 64) (l / 2 ^ 62) % 2 ^ 16) * 2 ^ 64 + bitOr ((l * 2 ^ 2) % 2 ^ 64) returns ≡ behind 1 (h * 2 ^ 64 + l)
+  -- s bits come in below: the low word stays a word, and the high word is cut
+  module _ (o : ℕ) (small : o < 2 ^ s) where
+    joined : bitOr low′ o ≡ low′ + o
+    joined = ap (λ (y : ℕ). bitOr y o) low-is ∙ or-shifted (l % 2 ^ m) s o small ∙ ap (_+ o) (sym low-is)
+
+    joined-fits : low′ + o < 2 ^ 64
+    joined-fits = rw low-is (subst (λ (n : ℕ). (l % 2 ^ m) * 2 ^ s + o < 2 ^ n) parts (joined-lt s (l % 2 ^ m) small m (mod-lt l (pow-pos m))))
+
+    parted : (x * 2 ^ s + o) % 2 ^ keyLength ≡ high′ % 2 ^ 16 * 2 ^ 64 + bitOr low′ o
+    parted =
+        let cut : up % 2 ^ 16 ≡ high′ % 2 ^ 16 = sym (mod-mod-pow up 48 16) ∙ ap (λ (y : ℕ). y % 2 ^ 16) (low (h / 2 ^ m) 64 high-lt) in
+        ap (λ (y : ℕ). y % 2 ^ keyLength) (ap (_+ o) moved-up ∙ add-assoc (up * 2 ^ 64) low′ o)
+        ∙ mod-pow-add (up * 2 ^ 64 + (low′ + o)) 16 64
+        ∙ ap₂ (λ (y z : ℕ). y % 2 ^ 16 * 2 ^ 64 + z) (high up 64 joined-fits) (low up 64 joined-fits)
+        ∙ ap₂ (λ (y z : ℕ). y * 2 ^ 64 + z) cut (sym joined)
+
+  pub behind-words : high′ % 2 ^ 16 * 2 ^ 64 + bitOr low′ (rule % ((1 * 2 ^ s) % 2 ^ 64)) ≡ behind c x
   unfolding behind
   behind-words =
-      let small : returns < 2 ^ 2 = mod-lt _ (pow-pos 2) in
-      let below : bitOr ((l * 2 ^ 2) % 2 ^ 64) returns ≡ (l % 2 ^ 62) * 2 ^ 2 + returns
-      = ap (λ (y : ℕ). bitOr y returns) (lifted l 62 (omega arith)) ∙ or-shifted (l % 2 ^ 62) 2 returns small in
-      let above : bitOr ((h * 2 ^ 2) % 2 ^ 64) (l / 2 ^ 62) ≡ (h % 2 ^ 62) * 2 ^ 2 + l / 2 ^ 62
-      = ap (λ (y : ℕ). bitOr y (l / 2 ^ 62)) (lifted h 62 (omega arith)) ∙ or-shifted (h % 2 ^ 62) 2 (l / 2 ^ 62) (shr-lt 2 62 q) in
-      rw (below, above, rule-back) (sym (parted returns small))
-    where
-      -- two bits come in below: the low word's two highest go up
-      parted : (o : ℕ) → o < 2 ^ 2 → ((h * 2 ^ 64 + l) * 2 ^ 2 + o) % 2 ^ keyLength ≡ ((h % 2 ^ 62) * 2 ^ 2 + l / 2 ^ 62) % 2 ^ 16 * 2 ^ 64 + ((l % 2 ^ 62) * 2 ^ 2 + o)
-      parted o p =
-          let up : ℕ = h * 2 ^ 2 + l / 2 ^ 62 in
-          let rest : ℕ = (l % 2 ^ 62) * 2 ^ 2 + o in
-          let fits : rest < 2 ^ 64 = joined-lt 2 (l % 2 ^ 62) p 62 (mod-lt l (pow-pos 62)) in
-          let words : (h * 2 ^ 64 + l) * 2 ^ 2 + o ≡ up * 2 ^ 64 + rest = omega (arith, split l 62) in
-          let kept : ℕ = (h % 2 ^ 62) * 2 ^ 2 + l / 2 ^ 62 in
-          let beyond : up ≡ kept + h / 2 ^ 62 * 2 ^ 48 * 2 ^ 16 = omega (arith, split h 62) in
-          let cut : up % 2 ^ 16 ≡ kept % 2 ^ 16 = ap (λ (y : ℕ). y % 2 ^ 16) beyond ∙ add-mul-mod-self-right kept (h / 2 ^ 62 * 2 ^ 48) (2 ^ 16) in
-          ap (λ (y : ℕ). y % 2 ^ keyLength) words
-          ∙ mod-pow-add (up * 2 ^ 64 + rest) 16 64
-          ∙ ap₂ (λ (y z : ℕ). y % 2 ^ 16 * 2 ^ 64 + z) (high up 64 fits) (low up 64 fits)
-          ∙ ap (λ (y : ℕ). y * 2 ^ 64 + rest) cut
+      ap (λ (n : ℕ). high′ % 2 ^ 16 * 2 ^ 64 + bitOr low′ (rule % n)) (one-shifted s (omega arith))
+      ∙ sym (parted (rule % 2 ^ s) (mod-lt rule (pow-pos s)))
+      ∙ ap (λ (y : ℕ). (x * 2 ^ s + y) % 2 ^ keyLength) (sym rule-back)

@@ -1,3 +1,4 @@
 pub mod Running
 pub mod Words
 pub mod InWords
+pub mod Sources

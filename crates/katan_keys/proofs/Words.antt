@@ -1,11 +1,11 @@
 -- A number in two words, its shifts and the low bits of its shifts.
 -- Assumes nothing.
-use mathlib.Core.Path.{_≡_, sym, ap, ap₂, _∙_}
+use mathlib.Core.Path.{_≡_, sym, ap, ap₂, subst, _∙_}
 use Prim.Native.Nat.{ℕ, _+_, _-_, _*_, _/_, _%_, _^_, _<_, _≤_}
-use native.Mathlib.Nat.{add-comm, add-mul, mul-assoc, mul-comm, add-zero, add-mul-div-right}
+use native.Mathlib.Nat.{add-comm, add-mul, mul-assoc, mul-right-comm, mod-lt, add-sub-of-le, add-mul-div-right}
 use native.Mathlib.Omega.{arith}
 use lib.Bits.{xor-mod}
-use lib.Pow.{pow-pos, pow-add, shr-shr, shl-shr, high, low, split, mod-pow-add, mod-mod-pow, field}
+use lib.Pow.{pow-pos, pow-add, shr-shr, shl-shr, shl-lt, high, low, split, mod-mod-pow, field}
 use Rattle.katan.specs.Bit.{xor}
 
 -- the low s bits of an xor of four go by theirs
@@ -17,15 +17,23 @@ pub low-same : (s a b c d a′ b′ c′ d′ : ℕ) → a % 2 ^ s ≡ a′ % 2 
     → xor (xor (xor a b) c) d % 2 ^ s ≡ xor (xor (xor a′ b′) c′) d′ % 2 ^ s
 low-same s a b c d a′ b′ c′ d′ e f g h = four-low s a b c d ∙ ap₂ xor (ap₂ xor (ap₂ xor e f) g) h ∙ sym (four-low s a′ b′ c′ d′)
 
--- h, shifted up so that its low s bits are the highest of a word
-pub lifted : (h s : ℕ) → s ≤ 64 → (h * 2 ^ (64 - s)) % 2 ^ 64 ≡ (h % 2 ^ s) * 2 ^ (64 - s)
-lifted h s q =
-    let m = 64 - s in
-    let e : 64 ≡ s + m = omega arith in
-    ap (λ (x : ℕ). (h * 2 ^ m) % 2 ^ x) e
-    ∙ mod-pow-add (h * 2 ^ m) s m
-    ∙ ap₂ (λ (x y : ℕ). (x % 2 ^ s) * 2 ^ m + y) (shl-shr h m) (ap (λ (x : ℕ). x % 2 ^ m) (sym (add-zero (h * 2 ^ m))) ∙ low h m (pow-pos m))
-    ∙ add-zero _
+-- h, shifted up by m bits: all but its low s bits leave a word
+module _ (h s m : ℕ) (word : s + m ≡ 64) where
+  pub raised : h * 2 ^ m ≡ h / 2 ^ s * 2 ^ 64 + (h % 2 ^ s) * 2 ^ m
+  raised =
+      ap (λ (y : ℕ). y * 2 ^ m) (sym (split h s))
+      ∙ add-mul _ _ (2 ^ m)
+      ∙ ap (λ (y : ℕ). y + (h % 2 ^ s) * 2 ^ m) (mul-assoc _ (2 ^ s) (2 ^ m) ∙ ap (h / 2 ^ s *_) (sym (pow-add 2 s m) ∙ ap (λ (n : ℕ). 2 ^ n) word))
+
+  pub lifted : (h * 2 ^ m) % 2 ^ 64 ≡ (h % 2 ^ s) * 2 ^ m
+  lifted =
+      let fits : (h % 2 ^ s) * 2 ^ m < 2 ^ 64 = subst (λ (n : ℕ). (h % 2 ^ s) * 2 ^ m < 2 ^ n) word (shl-lt s m (mod-lt h (pow-pos s))) in
+      ap (λ (y : ℕ). y % 2 ^ 64) raised ∙ low (h / 2 ^ s) 64 fits
+
+-- before it was shifted up, the number stood lower
+pub stood-lower : (x s j : ℕ) → s ≤ j → x / 2 ^ (j - s) ≡ (x * 2 ^ s) / 2 ^ j
+stood-lower x s j r =
+    ap (λ (y : ℕ). y / 2 ^ (j - s)) (sym (shl-shr x s)) ∙ shr-shr (x * 2 ^ s) s (j - s) ∙ ap (λ (n : ℕ). (x * 2 ^ s) / 2 ^ n) (add-sub-of-le r)
 
 module _ (h : ℕ) {l : ℕ} (q : l < 2 ^ 64) where
   x : ℕ
@@ -47,13 +55,13 @@ module _ (h : ℕ) {l : ℕ} (q : l < 2 ^ 64) where
   pub shifted-down : (s : ℕ) → s ≤ 64 → (h * 2 ^ 64 + l) / 2 ^ s ≡ h / 2 ^ s * 2 ^ 64 + ((h % 2 ^ s) * 2 ^ (64 - s) + l / 2 ^ s)
   shifted-down s r =
       let m = 64 - s in
-      let word : 2 ^ 64 ≡ 2 ^ s * 2 ^ m = ap (λ (n : ℕ). 2 ^ n) e ∙ pow-add 2 s m in
-      let up : h * 2 ^ 64 ≡ h * 2 ^ m * 2 ^ s = ap (h *_) (word ∙ mul-comm (2 ^ s) (2 ^ m)) ∙ sym (mul-assoc h (2 ^ m) (2 ^ s)) in
-      let parted : h * 2 ^ m ≡ h / 2 ^ s * 2 ^ 64 + (h % 2 ^ s) * 2 ^ m
-      = ap (λ (y : ℕ). y * 2 ^ m) (sym (split h s)) ∙ add-mul _ _ (2 ^ m) ∙ ap (λ (y : ℕ). y + (h % 2 ^ s) * 2 ^ m) (mul-assoc _ (2 ^ s) (2 ^ m) ∙ ap (h / 2 ^ s *_) (sym word)) in
+      let word : m + s ≡ 64 = omega arith in
+      let up : h * 2 ^ 64 ≡ h * 2 ^ m * 2 ^ s = ap (λ (n : ℕ). h * 2 ^ n) (sym word) ∙ ap (h *_) (pow-add 2 m s) ∙ sym (mul-assoc h (2 ^ m) (2 ^ s)) in
       ap (λ (y : ℕ). y / 2 ^ s) (add-comm (h * 2 ^ 64) l ∙ ap (l +_) up)
       ∙ add-mul-div-right l (h * 2 ^ m) (pow-pos s)
-      ∙ omega (arith, parted)
-    where
-      e : 64 ≡ s + (64 - s)
-      e = omega arith
+      ∙ omega (arith, raised h s m (omega arith))
+
+  -- and shifted up by s: the low word's highest s bits go up to the high word
+  pub shifted-up : (s m : ℕ) → m + s ≡ 64 → (h * 2 ^ 64 + l) * 2 ^ s ≡ (h * 2 ^ s + l / 2 ^ m) * 2 ^ 64 + (l % 2 ^ m) * 2 ^ s
+  shifted-up s m word =
+      omega (arith, add-mul (h * 2 ^ 64) l (2 ^ s), mul-right-comm h (2 ^ 64) (2 ^ s), raised l m s word)

@@ -57,12 +57,12 @@ pub record RunningWindow : Type 0 where
 abbrev pub sourceAt : (v key p : ℕ) → ℕ
 sourceAt v key p = pick (isKatan v) (windowAt key p) key
 
--- a round later, and a round earlier
-abbrev pub nextSource : (v w : ℕ) → ℕ
-nextSource v w = pick (isKatan v) (ahead 1 w) w
+-- c rounds later, and c rounds earlier
+abbrev pub nextSource : (v c w : ℕ) → ℕ
+nextSource v c w = pick (isKatan v) (ahead c w) w
 
-abbrev pub previousSource : (v w : ℕ) → ℕ
-previousSource v w = pick (isKatan v) (behind 1 w) w
+abbrev pub previousSource : (v c w : ℕ) → ℕ
+previousSource v c w = pick (isKatan v) (behind c w) w
 
 -- the number in two words
 abbrev pub windowNumber : Window → ℕ

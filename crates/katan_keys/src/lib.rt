@@ -3,7 +3,8 @@
 ghost use mathlib.Core.Path.{_≡_};
 ghost use Prim.Native.Nat.{_≤_};
 ghost use Rattle.katan.specs.Bit.{bit};
-ghost use Rattle.katan.specs.Key.{keyNumber};
+ghost use Rattle.katan.specs.Key.{keyNumber, keyBits};
+ghost use Rattle.katan.specs.Variant.{rowOf, strideOf};
 ghost use Rattle.katan_keys.specs.Window.{windowNumber, longestStep, slid, ahead as aheadOf, behind as behindOf, times, sourceAt, nextSource, previousSource};
 use katan::Key;
 use katan::RoundPosition;
@@ -46,14 +47,18 @@ fn ahead(c: usize, w: Window) -> Window
     slide_by(c, w, w.low ^ (w.low >> 19) ^ (w.low >> 30) ^ (w.high >> 3))
 }
 
-// The window one round back: the bits that had left follow by the rule read backwards.
-fn behind(w: Window) -> Window
-    ensures { λ r. ⌜ windowNumber r ≡ behindOf 1 (windowNumber w) ⌝ }
+// The window c rounds back: it moves up, and the bits that had left follow by the rule read backwards.
+fn behind(c: usize, w: Window) -> Window
+    requires { ⌜ (1 ≤ c) × (c ≤ longestStep) ⌝ }
+    ensures { λ r. ⌜ windowNumber r ≡ behindOf c (windowNumber w) ⌝ }
 {
-    let returning = ((w.high >> 14) ^ (w.high >> 1) ^ (w.low >> 28) ^ (w.low >> 17)) % 4;
+    let s = 2 * c;
+    let low = w.low << s;
+    let high = (w.high << s) | (w.low >> (64 - s));
+    let returning = ((high >> 16) ^ (high >> 3) ^ (low >> 30) ^ (low >> 19)) % (1 << s);
     Window {
-        low: (w.low << 2) | returning,
-        high: ((w.high << 2) | (w.low >> 62)) % 0x1_0000,
+        low: low | returning,
+        high: high % 0x1_0000,
     }
 }
 
@@ -93,7 +98,7 @@ pub fn source_at(variant: u8, key: Key, at: RoundPosition) -> Window
 
 // The same a round later, and a round earlier.
 pub fn next_source(variant: u8, w: Window) -> Window
-    ensures { λ r. ⌜ windowNumber r ≡ nextSource variant (windowNumber w) ⌝ }
+    ensures { λ r. ⌜ windowNumber r ≡ nextSource variant 1 (windowNumber w) ⌝ }
 {
     if katan_variants::is_katan(variant) {
         ahead(1, w)
@@ -103,10 +108,31 @@ pub fn next_source(variant: u8, w: Window) -> Window
 }
 
 pub fn previous_source(variant: u8, w: Window) -> Window
-    ensures { λ r. ⌜ windowNumber r ≡ previousSource variant (windowNumber w) ⌝ }
+    ensures { λ r. ⌜ windowNumber r ≡ previousSource variant 1 (windowNumber w) ⌝ }
 {
     if katan_variants::is_katan(variant) {
-        behind(w)
+        behind(1, w)
+    } else {
+        w
+    }
+}
+
+// The same after the rounds that are worked at once, and before them.
+pub fn source_ahead(variant: u8, w: Window) -> Window
+    ensures { λ r. ⌜ windowNumber r ≡ nextSource variant (strideOf (rowOf variant)) (windowNumber w) ⌝ }
+{
+    if katan_variants::is_katan(variant) {
+        ahead(katan_variants::stride(variant), w)
+    } else {
+        w
+    }
+}
+
+pub fn source_behind(variant: u8, w: Window) -> Window
+    ensures { λ r. ⌜ windowNumber r ≡ previousSource variant (strideOf (rowOf variant)) (windowNumber w) ⌝ }
+{
+    if katan_variants::is_katan(variant) {
+        behind(katan_variants::stride(variant), w)
     } else {
         w
     }
@@ -121,4 +147,23 @@ pub fn bit_at(w: Window, i: usize) -> u64
     } else {
         katan_numbers::bit_of(w.high, i - katan::WORD_BITS)
     }
+}
+
+// The same as a byte.
+fn bit_byte(w: Window, i: usize) -> u8
+    ensures { λ r. ⌜ r ≡ bit (windowNumber w) i ⌝ }
+{
+    bit_at(w, i) as u8
+}
+
+// The bits of a key, from which every round of a KTANTAN picks.
+pub fn key_bits(key: Key) -> [u8; katan::KEY_BITS]
+    ensures { λ r. ⌜ r ≡ keyBits (keyNumber key) ⌝ }
+{
+    let words = key_words(key);
+    let mut bits = [0u8; katan::KEY_BITS];
+    for i in 0..katan::KEY_BITS {
+        bits[i] = bit_byte(words, i);
+    }
+    bits
 }

@@ -1,6 +1,6 @@
 -- The bits that the code finds at the places of a register, and what its formulas make of them.
 -- Assumes nothing.
-use mathlib.Core.Path.{_≡_, refl, sym, ap, ap₂, _∙_}
+use mathlib.Core.Path.{_≡_, refl, sym, ap, ap₂, subst, _∙_}
 use Prim.Native.Nat.{ℕ, _+_, _-_, _*_, _/_, _^_, _<_, _≤_}
 use native.Mathlib.Nat.{div-le-self, pow-le-pow-right}
 use native.Mathlib.Omega.{arith}
@@ -14,6 +14,7 @@ use Rattle.katan.specs.declared.ClockNumber.{ClockNumber}
 use Rattle.katan.specs.declared.Row.{Row}
 use Rattle.katan.specs.declared.RoundInput.{RoundInput}
 use Rattle.katan.proofs.Bits.{bit-shr, bit-mod}
+use Rattle.katan.proofs.Undo.{sound}
 use Rattle.katan_registers.specs.Inputs.{roundInput}
 use Rattle.katan_origin.specs.Chains.{xorTraced, andTraced, given, blockBit, placeAt, clockInput, faAt, fbAt}
 use Rattle.katan_origin.specs.Origin.{lastClock}
@@ -23,6 +24,9 @@ use Rattle.katan_origin.proofs.Formulas.{same-traced}
 use Rattle.katan_origin.proofs.Followed.{fa-followed, fb-followed, place-few, fa-at-most, fb-at-most}
 
 -- ---- the places of L1 lie in the block
+
+pub row-sound : (v : ℕ) (row : Row) → row ≡ rowOf v → Sound row
+row-sound v row e = subst (λ (x : Row). Sound x) (sym e) (sound v)
 
 pub in-block : (row : Row) → Sound row → (i t : ℕ) → i ≤ row .x1 → row .len2 + (i - t) < 2 ^ 64
 in-block row s i t h = omega (arith, s .top1, s .len1-fits, s .len2-fits)

@@ -7,8 +7,9 @@ ghost use Rattle.katan.specs.Variant.{rowOf, widthOf};
 ghost use Rattle.katan.specs.Machine.{registersAt};
 ghost use Rattle.katan_registers.specs.Answers.{blockOutcome, registersAnswer};
 ghost use Rattle.katan_registers.specs.Inputs.{roundInput};
+ghost use Rattle.katan_registers.specs.inner.Tables.{KeyBits};
+use crate::inputs::input_of;
 use crate::rounds::by_tables;
-use crate::rounds::input_of;
 use katan::Key;
 use katan::Refusal;
 use katan::RoundInput;
@@ -16,13 +17,23 @@ use katan::RoundPosition;
 use katan::Row;
 use katan::RowAnswer;
 
-mod clock;
+mod inputs;
 mod rounds;
 
 // What a call answers: a block, or the first fault found.
 pub enum Answer {
     Block(u64),
     Refused(Refusal),
+}
+
+// The bits from which the rounds of a KTANTAN pick; a KATAN's take theirs from the window.
+fn picks_from(variant: u8, key: Key) -> [u8; katan::KEY_BITS]
+    ensures { λ r. ⌜ KeyBits variant (keyNumber key) r ⌝ }
+{
+    if katan_variants::is_katan(variant) {
+        return [0; katan::KEY_BITS];
+    }
+    katan_keys::key_bits(key)
 }
 
 // The registers at one position of x loaded at another.
@@ -34,12 +45,13 @@ fn registers_between(
     to: RoundPosition,
     x: u64,
 ) -> u64
-    requires { ⌜ (1 ≤ variant) × (variant ≤ 6) × (row ≡ rowOf variant) × (from .0 ≤ rounds) × (to .0 ≤ rounds) × (x < 2 ^ widthOf variant) ⌝ }
+    requires { ⌜ (row ≡ rowOf variant) × (from .0 ≤ rounds) × (to .0 ≤ rounds) × (x < 2 ^ widthOf variant) ⌝ }
     ensures { λ r. ⌜ r ≡ registersAt variant (keyNumber key) (from .0) x (to .0) ⌝ }
 {
     let counters = katan_variants::counters();
     let numbers = katan_variants::key_bit_numbers();
-    by_tables(variant, row, &counters, &numbers, key, from, to, x)
+    let bits = picks_from(variant, key);
+    by_tables(variant, row, &counters, &numbers, &bits, key, from, to, x)
 }
 
 // The registers of a block, from one position to another, either way.

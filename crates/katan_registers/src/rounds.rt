@@ -1,148 +1,28 @@
-// Rounds and runs of rounds, forward and back, over any row of the variants' table.
+// Runs of rounds, forward and back: as many at once as the width allows, then single ones.
 ghost use mathlib.Core.Path.{_≡_};
-ghost use Prim.Native.Nat.{_<_, _≤_, _^_, _-_};
+ghost use Prim.Native.Nat.{ℕ, _<_, _≤_, _^_, _+_, _-_, _*_};
 ghost use Rattle.katan.specs.Counter.{rounds};
 ghost use Rattle.katan.specs.Key.{keyNumber};
-ghost use Rattle.katan.specs.Clock.{round, unround, run, unrun, registers, inputOf};
-ghost use Rattle.katan.specs.Variant.{row32, row48, row64, rowOf, widthOf};
+ghost use Rattle.katan.specs.Clock.{run, unrun, inputOf};
+ghost use Rattle.katan.specs.Variant.{rowOf, widthOf, strideOf};
 ghost use Rattle.katan.specs.Machine.{registersAt};
-ghost use Rattle.katan.specs.inner.Within.{Bits, RegistersFit};
-ghost use Rattle.katan_keys.specs.Window.{windowNumber, nextSource, previousSource};
-ghost use Rattle.katan_registers.specs.inner.Tables.{Tables, inputFrom, tableInput, afterRound};
-use crate::clock::clock_of;
-use crate::clock::unclock_of;
+ghost use Rattle.katan_registers.specs.inner.Tables.{Tables, KeyBits, Moves, MovesBack};
+use crate::inputs::input_of;
+use crate::inputs::inputs_3;
+use crate::inputs::inputs_4;
 use katan::Key;
 use katan::Registers;
-use katan::RoundInput;
 use katan::RoundPosition;
 use katan::Row;
 use katan_keys::Window;
 
-// What a round takes, and the source of the position that it leads to: what the rounds find their key bits in, a KATAN's
-// window or a KTANTAN's key.
-struct Fed {
-    input: RoundInput,
-    source: Window,
-}
-
-// The registers at a position, and its source.
+// The registers at a position, and its source: what the rounds find their key bits in, a KATAN's window or a KTANTAN's key.
 struct Running {
     registers: Registers,
     source: Window,
 }
 
-fn wide(x: u8) -> u64
-    ensures { λ r. ⌜ r ≡ x ⌝ }
-{
-    x as u64
-}
-
-// IR from the round's T, and ka and kb, which have these places in the source.
-fn input_from(counter: u8, source: Window, ka: usize, kb: usize) -> RoundInput
-    ensures { λ u. ⌜ u ≡ inputFrom counter (windowNumber source) ka kb ⌝ }
-{
-    RoundInput {
-        ir: (wide(counter) >> 7) % 2,
-        ka: katan_keys::bit_at(source, ka),
-        kb: katan_keys::bit_at(source, kb),
-    }
-}
-
-// The input of round r. KATAN's key bits are the two lowest of the window; KTANTAN's table names them.
-pub fn input_of(
-    variant: u8,
-    counters: &[u8; katan::ROUND_COUNT],
-    numbers: &[u8; katan::ROUND_KEYS],
-    r: usize,
-    source: Window,
-) -> RoundInput
-    requires { ⌜ r < rounds ⌝ }
-    ensures { λ u. ⌜ u ≡ tableInput variant (now (counters .entry)) (now (numbers .entry)) r (windowNumber source) ⌝ }
-{
-    if katan_variants::is_katan(variant) {
-        return input_from(counters[r], source, 0, 1);
-    }
-    let ka = katan_numbers::index_of(numbers[2 * r]);
-    let kb = katan_numbers::index_of(numbers[2 * r + 1]);
-    input_from(counters[r], source, ka, kb)
-}
-
-// Round r is fed from the source of its position, and the next round from the next one.
-fn feed(
-    variant: u8,
-    counters: &[u8; katan::ROUND_COUNT],
-    numbers: &[u8; katan::ROUND_KEYS],
-    r: usize,
-    source: Window,
-) -> Fed
-    requires { ⌜ r < rounds ⌝ }
-    ensures { λ f. ⌜ (f .input ≡ tableInput variant (now (counters .entry)) (now (numbers .entry)) r (windowNumber source)) × (windowNumber (f .source) ≡ nextSource variant (windowNumber source)) ⌝ }
-{
-    let next = katan_keys::next_source(variant, source);
-    Fed {
-        input: input_of(variant, counters, numbers, r, source),
-        source: next,
-    }
-}
-
-// On the way back the source steps first: that of round r's own position feeds it.
-fn feed_back(
-    variant: u8,
-    counters: &[u8; katan::ROUND_COUNT],
-    numbers: &[u8; katan::ROUND_KEYS],
-    r: usize,
-    source: Window,
-) -> Fed
-    requires { ⌜ r < rounds ⌝ }
-    ensures { λ f. ⌜ (f .input ≡ tableInput variant (now (counters .entry)) (now (numbers .entry)) r (previousSource variant (windowNumber source))) × (windowNumber (f .source) ≡ previousSource variant (windowNumber source)) ⌝ }
-{
-    let before = katan_keys::previous_source(variant, source);
-    Fed {
-        input: input_of(variant, counters, numbers, r, before),
-        source: before,
-    }
-}
-
-// A round for each width, with the row a constant, so that its taps are compiled in.
-fn round_32(f: Fed, s: Registers) -> Running
-    requires { ⌜ Bits (f .input) × RegistersFit row32 s ⌝ }
-    ensures { λ r. ⌜ r ≡ afterRound f (round row32 (f .input) s) ⌝ }
-{
-    let u = f.input;
-    let source = f.source;
-    Running {
-        registers: clock_of(katan_variants::row_32(), u, s),
-        source,
-    }
-}
-
-fn round_48(f: Fed, s: Registers) -> Running
-    requires { ⌜ Bits (f .input) × RegistersFit row48 s ⌝ }
-    ensures { λ r. ⌜ r ≡ afterRound f (round row48 (f .input) s) ⌝ }
-{
-    let u = f.input;
-    let source = f.source;
-    let row = katan_variants::row_48();
-    Running {
-        registers: clock_of(row, u, clock_of(row, u, s)),
-        source,
-    }
-}
-
-fn round_64(f: Fed, s: Registers) -> Running
-    requires { ⌜ Bits (f .input) × RegistersFit row64 s ⌝ }
-    ensures { λ r. ⌜ r ≡ afterRound f (round row64 (f .input) s) ⌝ }
-{
-    let u = f.input;
-    let source = f.source;
-    let row = katan_variants::row_64();
-    Running {
-        registers: clock_of(row, u, clock_of(row, u, clock_of(row, u, s))),
-        source,
-    }
-}
-
-// The whole round stands in the arm of its width: so the loop around it is compiled once for each.
+// One round.
 fn round_of(
     variant: u8,
     counters: &[u8; katan::ROUND_COUNT],
@@ -150,57 +30,19 @@ fn round_of(
     r: usize,
     h: Running,
 ) -> Running
-    requires { ⌜ (1 ≤ variant) × (variant ≤ 6) × (r < rounds) × RegistersFit (rowOf variant) (h .registers) ⌝ }
-    ensures { λ t. ⌜ (t .registers ≡ round (rowOf variant) (tableInput variant (now (counters .entry)) (now (numbers .entry)) r (windowNumber (h .source))) (h .registers)) × (windowNumber (t .source) ≡ nextSource variant (windowNumber (h .source))) ⌝ }
+    requires { ⌜ (r < rounds) × Tables (now counters) (now numbers) ⌝ }
+    ensures { λ t. ⌜ ((key : ℕ) → Moves variant key r 1 h t) ⌝ }
 {
     let source = h.source;
-    let s = h.registers;
-    match variant {
-        1 | 4 => round_32(feed(variant, counters, numbers, r, source), s),
-        2 | 5 => round_48(feed(variant, counters, numbers, r, source), s),
-        _ => round_64(feed(variant, counters, numbers, r, source), s),
-    }
-}
-
-// The same rounds undone.
-fn unround_32(f: Fed, s: Registers) -> Running
-    requires { ⌜ Bits (f .input) × RegistersFit row32 s ⌝ }
-    ensures { λ r. ⌜ r ≡ afterRound f (unround row32 (f .input) s) ⌝ }
-{
-    let u = f.input;
-    let source = f.source;
+    let u = input_of(variant, counters, numbers, r, source);
+    let next = katan_keys::next_source(variant, source);
     Running {
-        registers: unclock_of(katan_variants::row_32(), u, s),
-        source,
+        registers: katan_clocks::round(variant, u, h.registers),
+        source: next,
     }
 }
 
-fn unround_48(f: Fed, s: Registers) -> Running
-    requires { ⌜ Bits (f .input) × RegistersFit row48 s ⌝ }
-    ensures { λ r. ⌜ r ≡ afterRound f (unround row48 (f .input) s) ⌝ }
-{
-    let u = f.input;
-    let source = f.source;
-    let row = katan_variants::row_48();
-    Running {
-        registers: unclock_of(row, u, unclock_of(row, u, s)),
-        source,
-    }
-}
-
-fn unround_64(f: Fed, s: Registers) -> Running
-    requires { ⌜ Bits (f .input) × RegistersFit row64 s ⌝ }
-    ensures { λ r. ⌜ r ≡ afterRound f (unround row64 (f .input) s) ⌝ }
-{
-    let u = f.input;
-    let source = f.source;
-    let row = katan_variants::row_64();
-    Running {
-        registers: unclock_of(row, u, unclock_of(row, u, unclock_of(row, u, s))),
-        source,
-    }
-}
-
+// The same undone: the source steps first.
 fn unround_of(
     variant: u8,
     counters: &[u8; katan::ROUND_COUNT],
@@ -208,41 +50,223 @@ fn unround_of(
     r: usize,
     h: Running,
 ) -> Running
-    requires { ⌜ (1 ≤ variant) × (variant ≤ 6) × (r < rounds) × RegistersFit (rowOf variant) (h .registers) ⌝ }
-    ensures { λ t. ⌜ (t .registers ≡ unround (rowOf variant) (tableInput variant (now (counters .entry)) (now (numbers .entry)) r (previousSource variant (windowNumber (h .source)))) (h .registers)) × (windowNumber (t .source) ≡ previousSource variant (windowNumber (h .source))) ⌝ }
+    requires { ⌜ (r < rounds) × Tables (now counters) (now numbers) ⌝ }
+    ensures { λ t. ⌜ ((key : ℕ) → MovesBack variant key r 1 h t) ⌝ }
 {
-    let source = h.source;
-    let s = h.registers;
-    match variant {
-        1 | 4 => unround_32(feed_back(variant, counters, numbers, r, source), s),
-        2 | 5 => unround_48(feed_back(variant, counters, numbers, r, source), s),
-        _ => unround_64(feed_back(variant, counters, numbers, r, source), s),
+    let before = katan_keys::previous_source(variant, h.source);
+    let u = input_of(variant, counters, numbers, r, before);
+    Running {
+        registers: katan_clocks::unround(variant, u, h.registers),
+        source: before,
     }
 }
 
-// The rounds from one position to a later one. The index is a word: a byte that is widened in each round costs up to 6 %.
+// The rounds that are worked at once, from round r on. All of it stands in the arm of its width: so the loop around it is compiled
+// once for each.
+fn stride_of(
+    variant: u8,
+    counters: &[u8; katan::ROUND_COUNT],
+    numbers: &[u8; katan::ROUND_KEYS],
+    bits: &[u8; katan::KEY_BITS],
+    r: usize,
+    h: Running,
+) -> Running
+    requires { ⌜ (r + strideOf (rowOf variant) ≤ rounds) × Tables (now counters) (now numbers) ⌝ }
+    ensures { λ t. ⌜ ((key : ℕ) → KeyBits variant key (now (bits .entry)) → Moves variant key r (strideOf (rowOf variant)) h t) ⌝ }
+{
+    let w = h.source;
+    let s = h.registers;
+    match variant {
+        2 | 5 => Running {
+            registers: katan_clocks::rounds_48(
+                inputs_3(variant, 2, counters, numbers, bits, r, w),
+                s,
+            ),
+            source: katan_keys::source_ahead(variant, w),
+        },
+        3 | 6 => Running {
+            registers: katan_clocks::rounds_64(
+                inputs_3(variant, 3, counters, numbers, bits, r, w),
+                s,
+            ),
+            source: katan_keys::source_ahead(variant, w),
+        },
+        _ => Running {
+            registers: katan_clocks::rounds_32(inputs_4(variant, counters, numbers, bits, r, w), s),
+            source: katan_keys::source_ahead(variant, w),
+        },
+    }
+}
+
+// The same undone.
+fn unstride_of(
+    variant: u8,
+    counters: &[u8; katan::ROUND_COUNT],
+    numbers: &[u8; katan::ROUND_KEYS],
+    bits: &[u8; katan::KEY_BITS],
+    r: usize,
+    h: Running,
+) -> Running
+    requires { ⌜ (r + strideOf (rowOf variant) ≤ rounds) × Tables (now counters) (now numbers) ⌝ }
+    ensures { λ t. ⌜ ((key : ℕ) → KeyBits variant key (now (bits .entry)) → MovesBack variant key r (strideOf (rowOf variant)) h t) ⌝ }
+{
+    let s = h.registers;
+    match variant {
+        2 | 5 => {
+            let w = katan_keys::source_behind(variant, h.source);
+            Running {
+                registers: katan_clocks::unrounds_48(
+                    inputs_3(variant, 2, counters, numbers, bits, r, w),
+                    s,
+                ),
+                source: w,
+            }
+        }
+        3 | 6 => {
+            let w = katan_keys::source_behind(variant, h.source);
+            Running {
+                registers: katan_clocks::unrounds_64(
+                    inputs_3(variant, 3, counters, numbers, bits, r, w),
+                    s,
+                ),
+                source: w,
+            }
+        }
+        _ => {
+            let w = katan_keys::source_behind(variant, h.source);
+            Running {
+                registers: katan_clocks::unrounds_32(
+                    inputs_4(variant, counters, numbers, bits, r, w),
+                    s,
+                ),
+                source: w,
+            }
+        }
+    }
+}
+
+// n strides from round r on.
+fn strides(
+    variant: u8,
+    counters: &[u8; katan::ROUND_COUNT],
+    numbers: &[u8; katan::ROUND_KEYS],
+    bits: &[u8; katan::KEY_BITS],
+    r: usize,
+    n: usize,
+    h: Running,
+) -> Running
+    requires { ⌜ (r + n * strideOf (rowOf variant) ≤ rounds) × Tables (now counters) (now numbers) ⌝ }
+    ensures { λ t. ⌜ ((key : ℕ) → KeyBits variant key (now (bits .entry)) → Moves variant key r (n * strideOf (rowOf variant)) h t) ⌝ }
+{
+    let stride = katan_variants::stride(variant);
+    let mut t = h;
+    for i in 0..n {
+        t = stride_of(variant, counters, numbers, bits, r + i * stride, t);
+    }
+    t
+}
+
+// n single rounds from round r on.
+fn singles(
+    variant: u8,
+    counters: &[u8; katan::ROUND_COUNT],
+    numbers: &[u8; katan::ROUND_KEYS],
+    r: usize,
+    n: usize,
+    h: Running,
+) -> Running
+    requires { ⌜ (r + n ≤ rounds) × Tables (now counters) (now numbers) ⌝ }
+    ensures { λ t. ⌜ ((key : ℕ) → Moves variant key r n h t) ⌝ }
+{
+    let mut t = h;
+    for i in 0..n {
+        t = round_of(variant, counters, numbers, r + i, t);
+    }
+    t
+}
+
+// n strides undone, down to round r.
+fn unstrides(
+    variant: u8,
+    counters: &[u8; katan::ROUND_COUNT],
+    numbers: &[u8; katan::ROUND_KEYS],
+    bits: &[u8; katan::KEY_BITS],
+    r: usize,
+    n: usize,
+    h: Running,
+) -> Running
+    requires { ⌜ (r + n * strideOf (rowOf variant) ≤ rounds) × Tables (now counters) (now numbers) ⌝ }
+    ensures { λ t. ⌜ ((key : ℕ) → KeyBits variant key (now (bits .entry)) → MovesBack variant key r (n * strideOf (rowOf variant)) h t) ⌝ }
+{
+    let stride = katan_variants::stride(variant);
+    let mut left = n;
+    let mut t = h;
+    while 0 < left {
+        left -= 1;
+        t = unstride_of(variant, counters, numbers, bits, r + left * stride, t);
+    }
+    t
+}
+
+// n single rounds undone, down to round r.
+fn unsingles(
+    variant: u8,
+    counters: &[u8; katan::ROUND_COUNT],
+    numbers: &[u8; katan::ROUND_KEYS],
+    r: usize,
+    n: usize,
+    h: Running,
+) -> Running
+    requires { ⌜ (r + n ≤ rounds) × Tables (now counters) (now numbers) ⌝ }
+    ensures { λ t. ⌜ ((key : ℕ) → MovesBack variant key r n h t) ⌝ }
+{
+    let mut left = n;
+    let mut t = h;
+    while 0 < left {
+        left -= 1;
+        t = unround_of(variant, counters, numbers, r + left, t);
+    }
+    t
+}
+
+// The rounds from one position to a later one.
 fn run_of(
     variant: u8,
     counters: &[u8; katan::ROUND_COUNT],
     numbers: &[u8; katan::ROUND_KEYS],
+    bits: &[u8; katan::KEY_BITS],
     key: Key,
     from: RoundPosition,
     to: RoundPosition,
     s: Registers,
 ) -> Registers
-    requires { ⌜ (1 ≤ variant) × (variant ≤ 6) × Tables (now counters) (now numbers) × RegistersFit (rowOf variant) s × (from .0 ≤ to .0) × (to .0 ≤ rounds) ⌝ }
+    requires { ⌜ Tables (now counters) (now numbers) × KeyBits variant (keyNumber key) (now bits) × (from .0 ≤ to .0) × (to .0 ≤ rounds) ⌝ }
     ensures { λ r. ⌜ r ≡ run (rowOf variant) (inputOf variant (keyNumber key)) (from .0) (to .0 - from .0) s ⌝ }
 {
+    let stride = katan_variants::stride(variant);
     let first = from.0 as usize;
     let count = to.0 as usize - first;
-    let mut h = Running {
+    let start = Running {
         registers: s,
         source: katan_keys::source_at(variant, key, from),
     };
-    for i in 0..count {
-        h = round_of(variant, counters, numbers, first + i, h);
-    }
-    h.registers
+    let h = strides(
+        variant,
+        counters,
+        numbers,
+        bits,
+        first,
+        count / stride,
+        start,
+    );
+    singles(
+        variant,
+        counters,
+        numbers,
+        to.0 as usize - count % stride,
+        count % stride,
+        h,
+    ).registers
 }
 
 // The same rounds undone, the last first.
@@ -250,45 +274,59 @@ fn unrun_of(
     variant: u8,
     counters: &[u8; katan::ROUND_COUNT],
     numbers: &[u8; katan::ROUND_KEYS],
+    bits: &[u8; katan::KEY_BITS],
     key: Key,
     from: RoundPosition,
     to: RoundPosition,
     s: Registers,
 ) -> Registers
-    requires { ⌜ (1 ≤ variant) × (variant ≤ 6) × Tables (now counters) (now numbers) × RegistersFit (rowOf variant) s × (to .0 ≤ from .0) × (from .0 ≤ rounds) ⌝ }
+    requires { ⌜ Tables (now counters) (now numbers) × KeyBits variant (keyNumber key) (now bits) × (to .0 ≤ from .0) × (from .0 ≤ rounds) ⌝ }
     ensures { λ r. ⌜ r ≡ unrun (rowOf variant) (inputOf variant (keyNumber key)) (to .0) (from .0 - to .0) s ⌝ }
 {
-    let end = to.0 as usize;
-    let mut left = from.0 as usize;
-    let mut h = Running {
+    let stride = katan_variants::stride(variant);
+    let last = to.0 as usize;
+    let count = from.0 as usize - last;
+    let start = Running {
         registers: s,
         source: katan_keys::source_at(variant, key, from),
     };
-    while end < left {
-        left -= 1;
-        h = unround_of(variant, counters, numbers, left, h);
-    }
-    h.registers
+    let h = unstrides(
+        variant,
+        counters,
+        numbers,
+        bits,
+        last + count % stride,
+        count / stride,
+        start,
+    );
+    unsingles(variant, counters, numbers, last, count % stride, h).registers
 }
 
-// The registers at one position of x loaded at another, with T of each round and KTANTAN's key bit numbers.
+// The registers at one position of x loaded at another, with T of each round, KTANTAN's key bit numbers and its key bits.
 pub fn by_tables(
     variant: u8,
     row: Row,
     counters: &[u8; katan::ROUND_COUNT],
     numbers: &[u8; katan::ROUND_KEYS],
+    bits: &[u8; katan::KEY_BITS],
     key: Key,
     from: RoundPosition,
     to: RoundPosition,
     x: u64,
 ) -> u64
-    requires { ⌜ (1 ≤ variant) × (variant ≤ 6) × (row ≡ rowOf variant) × Tables (now counters) (now numbers) × (from .0 ≤ rounds) × (to .0 ≤ rounds) × (x < 2 ^ widthOf variant) ⌝ }
+    requires { ⌜ (row ≡ rowOf variant) × Tables (now counters) (now numbers) × KeyBits variant (keyNumber key) (now bits) × (from .0 ≤ rounds) × (to .0 ≤ rounds) × (x < 2 ^ widthOf variant) ⌝ }
     ensures { λ r. ⌜ r ≡ registersAt variant (keyNumber key) (from .0) x (to .0) ⌝ }
 {
     let s = katan_numbers::registers_of(row, x);
     if from.0 <= to.0 {
-        katan_numbers::block_of(row, run_of(variant, counters, numbers, key, from, to, s))
+        katan_numbers::block_of(
+            row,
+            run_of(variant, counters, numbers, bits, key, from, to, s),
+        )
     } else {
-        katan_numbers::block_of(row, unrun_of(variant, counters, numbers, key, from, to, s))
+        katan_numbers::block_of(
+            row,
+            unrun_of(variant, counters, numbers, bits, key, from, to, s),
+        )
     }
 }

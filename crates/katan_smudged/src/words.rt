@@ -179,9 +179,9 @@ fn clock_of(variant: u8, u: KnownInput, s: KnownRegisters) -> KnownRegisters
     ensures { λ r. ⌜ r ≡ clockWords (rowOf variant) u s ⌝ }
 {
     match variant {
-        1 | 4 => clock_32(u, s),
         2 | 5 => clock_48(u, s),
-        _ => clock_64(u, s),
+        3 | 6 => clock_64(u, s),
+        _ => clock_32(u, s),
     }
 }
 

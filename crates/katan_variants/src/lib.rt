@@ -4,7 +4,7 @@ ghost use Prim.Native.Nat.{_*_};
 ghost use Rattle.katan.specs.Bit.{tabulate};
 ghost use Rattle.katan.specs.Counter.{counter, rounds};
 ghost use Rattle.katan.specs.Key.{keyBitNumber};
-ghost use Rattle.katan.specs.Variant.{row32, row48, row64, widthOf, isKatan};
+ghost use Rattle.katan.specs.Variant.{row32, row48, row64, rowOf, widthOf, strideOf, isKatan};
 ghost use Rattle.katan.specs.Checks.{numberOf, variantCheck};
 ghost use Rattle.katan.specs.Rows.{rowOutcome, rowAnswer};
 use katan::ClockNumber;
@@ -135,6 +135,17 @@ pub fn row_of(variant: u8) -> RowAnswer
         5 => RowAnswer::Found(row_48()),
         6 => RowAnswer::Found(row_64()),
         _ => RowAnswer::Refused(Refusal::BadVariant),
+    }
+}
+
+// The rounds of a variant that are worked at once; KATAN32's where there is no such variant.
+pub fn stride(variant: u8) -> usize
+    ensures { λ r. ⌜ r ≡ strideOf (rowOf variant) ⌝ }
+{
+    match variant {
+        2 | 5 => 3,
+        3 | 6 => 3,
+        _ => 4,
     }
 }
 

@@ -27,6 +27,23 @@ pub record Sound (v : Row) : Type 0 where
   pub y4-in : v .y4 < v .y1
   pub y5-in : v .y5 < v .y1
   pub y6-in : v .y6 < v .y1
+  -- x5 and y6 are the lowest taps, at the same place
+  pub x2-low : v .x5 ≤ v .x2
+  pub x3-low : v .x5 ≤ v .x3
+  pub x4-low : v .x5 ≤ v .x4
+  pub y2-low : v .y6 ≤ v .y2
+  pub y3-low : v .y6 ≤ v .y3
+  pub y4-low : v .y6 ≤ v .y4
+  pub y5-low : v .y6 ≤ v .y5
+  pub lows : v .y6 ≡ v .x5
+  -- x3 and y3 are the next after the highest, a round's clocks or more below it
+  pub x2-next : v .x2 ≤ v .x3
+  pub x4-next : v .x4 ≤ v .x3
+  pub y2-next : v .y2 ≤ v .y3
+  pub y4-next : v .y4 ≤ v .y3
+  pub y5-next : v .y5 ≤ v .y3
+  pub gap1 : v .clocks + v .x3 ≤ v .x1
+  pub gap2 : v .clocks + v .y3 ≤ v .y1
 
 pub record Bits (u : RoundInput) : Type 0 where
   pub ir-bit : u .ir < 2

@@ -1,11 +1,9 @@
-use mathlib.Core.Path.{_≡_, sym, _∙_}
-use mathlib.Core.Bool.{true, false}
 use Prim.Native.Nat.{_/_, _%_, _^_, _<_}
 use native.Mathlib.Omega.{arith}
 use Rattle.katan.specs.Key.{keyLength, keyNumber}
-use Rattle.katan.specs.Variant.{isKatan}
 use Rattle.katan.proofs.Bits.{joined-lt}
 use Rattle.katan_keys.proofs.Running.{way}
+use Rattle.katan_keys.proofs.Sources.{of-katan, of-ktantan}
 use borrow.Author.Needs.{needs}
 use Rattle.katan_keys.proofs.source_at.Statement.{statement}
 use Rattle.katan_keys.proofs.source_at.Tie as tie
@@ -37,15 +35,13 @@ returns c =
     let key = keyNumber (a .key) in
     let p = a .at .0 in
     let fits : key < 2 ^ keyLength = joined-lt 64 (a .key .high) (search needs) 16 (search needs) in
-    let kind : isKatan (a .variant) ≡ true = sym (b .before .is-katan .ensures) ∙ b .if1 .taken in
-    rw kind (way (p / 6) (p % 6) key _ _ _ fits (b .before .before .key-words .ensures) (c .before .steps .ensures) (c .steps2 .ensures) (omega arith) p (omega arith))
+    of-katan (a .variant) (b .before .is-katan .ensures) _ _ (b .if1 .taken)
+    (way (p / 6) (p % 6) key _ _ _ fits (b .before .before .key-words .ensures) (c .before .steps .ensures) (c .steps2 .ensures) (omega arith) p (omega arith))
 
 returns-2 : tie.Need-returns-2
 returns-2 c =
     let b = c .before in
-    let a = b .before .before .args in
-    let kind : isKatan (a .variant) ≡ false = sym (b .is-katan .ensures) ∙ c .if1 .left in
-    rw kind (b .before .key-words .ensures)
+    of-ktantan (b .before .before .args .variant) (b .is-katan .ensures) _ _ (c .if1 .left) (b .before .key-words .ensures)
 
 pub source-at-spec : {M : Type 1} → statement M
 source-at-spec =

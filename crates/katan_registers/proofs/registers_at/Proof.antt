@@ -54,7 +54,7 @@ registers-between-requires c κs =
     let d = m .before .before .before .before in
     let v = d .args .variant in
     let is = row-found v (m .before .before .before .row-of .result) _ (m .before .before .before .row-of .ensures) (m .before .row .given .1) in
-    (is .least, is .most, is .is-row, c .before .before .before .before .if1 .left, c .before .before .if2 .left, leb-false _ _ (ap (λ (r : Row). leb (2 ^ (r .n)) (d .args .registers)) (sym (is .is-row)) ∙ sym (c .before .too-wide .ensures) ∙ c .if3 .left))
+    (is .is-row, c .before .before .before .before .if1 .left, c .before .before .if2 .left, leb-false _ _ (ap (λ (r : Row). leb (2 ^ (r .n)) (d .args .registers)) (sym (is .is-row)) ∙ sym (c .before .too-wide .ensures) ∙ c .if3 .left))
 
 enum-known-r : tie.Need-enum-known-r
 enum-known-r c = search needs

@@ -5,7 +5,7 @@ use Rattle.katan.specs.Counter.{rounds}
 use Rattle.katan.specs.Key.{keyNumber}
 use Rattle.katan_keys.specs.Window.{windowNumber}
 use Rattle.katan_registers.specs.inner.Tables.{tableInput}
-use Rattle.katan_registers.proofs.Inputs.{table-input}
+use Rattle.katan_registers.proofs.Laws.{table-input}
 use borrow.Author.Needs.{needs}
 use Rattle.katan_registers.proofs.round_input.Statement.{statement}
 use Rattle.katan_registers.proofs.round_input.Tie as tie
@@ -42,7 +42,7 @@ returns-2 c =
     let ns = n .key-bit-numbers .result in
     let w = windowNumber (d .source-at .result) in
     let here : c .input-of .result ≡ tableInput v ts ns r w = c .input-of .ensures in
-    rw (lt-ltb r rounds early) (here ∙ table-input v key ts ns (n .before .counters .ensures, n .key-bit-numbers .ensures) r w early (d .source-at .ensures))
+    rw (lt-ltb r rounds early) (here ∙ table-input ts ns (n .before .counters .ensures, n .key-bit-numbers .ensures) v key r w early (d .source-at .ensures))
 
 pub round-input-spec : {M : Type 1} → statement M
 round-input-spec =

@@ -1,8 +1,7 @@
 use mathlib.Core.Path.{_≡_, _∙_}
 use mathlib.Core.Logic.{⊎-elim}
 use native.Mathlib.Omega.{arith}
-use Rattle.katan_registers.proofs.Inputs.{row-sound}
-use Rattle.katan_origin.proofs.Places.{in-block, came-in, was-there, of-l1, of-l2, l1-at, l2-at, few1, few2, fa-is, fb-is, room}
+use Rattle.katan_origin.proofs.Places.{row-sound, in-block, came-in, was-there, of-l1, of-l2, l1-at, l2-at, few1, few2, fa-is, fb-is, room}
 use Prim.Native.Nat.{ℕ, _<_}
 use borrow.Fn.Kinds.{In}
 use borrow.Fn.PlainCycle.{Measures, is, falls, and}

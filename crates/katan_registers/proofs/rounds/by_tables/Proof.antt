@@ -8,7 +8,7 @@ use Rattle.katan.specs.Variant.{rowOf}
 use Rattle.katan.specs.declared.Row.{Row}
 use Rattle.katan.proofs.Undo.{sound}
 use Rattle.katan.proofs.Positions.{block-in-word, at-later, at-earlier}
-use Rattle.katan_registers.proofs.Inputs.{loaded-fits, ran-fits, unran-fits}
+use Rattle.katan_registers.proofs.Laws.{loaded-fits, ran-fits, unran-fits}
 use Rattle.katan_registers.proofs.rounds.by_tables.Statement.{statement}
 use Rattle.katan_registers.proofs.rounds.by_tables.Tie as tie
 use Rattle.katan_registers.proofs.rounds.by_tables.Reads as reads
@@ -22,21 +22,13 @@ registers-of-requires : tie.Need-registers-of-requires
 registers-of-requires c κs = search needs
 
 run-of-requires : tie.Need-run-of-requires
-run-of-requires c κs =
-    let d = c .before .before .before .before in
-    let a = d .args in
-    let s = c .before .before .before .registers-of .ensures ∙ ap (λ (r : Row). registers r (a .x)) (d .pre .2) in
-    (d .pre .0, d .pre .1, d .pre .3, loaded-fits (rowOf (a .variant)) (sound (a .variant)) (a .x) (d .pre .6) _ s, omega arith, omega arith)
+run-of-requires c κs = let d = c .before .before .before .before in (d .pre .1, d .pre .2, omega arith, omega arith)
 
 block-of-requires : tie.Need-block-of-requires
 block-of-requires c κs = search needs
 
 unrun-of-requires : tie.Need-unrun-of-requires
-unrun-of-requires c κs =
-    let d = c .before .before .before .before in
-    let a = d .args in
-    let s = c .before .before .before .registers-of .ensures ∙ ap (λ (r : Row). registers r (a .x)) (d .pre .2) in
-    (d .pre .0, d .pre .1, d .pre .3, loaded-fits (rowOf (a .variant)) (sound (a .variant)) (a .x) (d .pre .6) _ s, omega arith, omega arith)
+unrun-of-requires c κs = let d = c .before .before .before .before in (d .pre .1, d .pre .2, omega arith, omega arith)
 
 block-of-requires-2 : tie.Need-block-of-requires-2
 block-of-requires-2 c κs = search needs
@@ -47,10 +39,10 @@ returns c =
     let a = d .args in
     let v = a .variant in
     let l = c .before .before .before .before .before .registers-of in
-    let s = l .ensures ∙ ap (λ (r : Row). registers r (a .x)) (d .pre .2) in
-    let f = ran-fits (rowOf v) (sound v) (keyNumber (a .key)) (a .from .0) (a .to .0 - a .from .0) (l .result) (loaded-fits (rowOf v) (sound v) (a .x) (d .pre .6) _ s) _ v (c .before .run-of .ensures) in
+    let s = l .ensures ∙ ap (λ (r : Row). registers r (a .x)) (d .pre .0) in
+    let f = ran-fits (rowOf v) (sound v) (keyNumber (a .key)) (a .from .0) (a .to .0 - a .from .0) (l .result) (loaded-fits (rowOf v) (sound v) (a .x) (d .pre .5) _ s) _ v (c .before .run-of .ensures) in
     c .block-of .ensures
-    ∙ ap (λ (r : Row). block r (c .before .run-of .result) % 2 ^ 64) (d .pre .2)
+    ∙ ap (λ (r : Row). block r (c .before .run-of .result) % 2 ^ 64) (d .pre .0)
     ∙ block-in-word (rowOf v) (sound v) (c .before .run-of .result) f
     ∙ ap (block (rowOf v)) (c .before .run-of .ensures ∙ ap (run (rowOf v) (inputOf v (keyNumber (a .key))) (a .from .0) (a .to .0 - a .from .0)) s)
     ∙ sym (at-later v (keyNumber (a .key)) (a .from .0) (a .x) (a .to .0) (c .before .before .if1 .taken))
@@ -61,10 +53,10 @@ returns-2 c =
     let a = d .args in
     let v = a .variant in
     let l = c .before .before .before .before .before .registers-of in
-    let s = l .ensures ∙ ap (λ (r : Row). registers r (a .x)) (d .pre .2) in
-    let f = unran-fits (rowOf v) (sound v) (keyNumber (a .key)) (a .to .0) (a .from .0 - a .to .0) (l .result) (loaded-fits (rowOf v) (sound v) (a .x) (d .pre .6) _ s) _ v (c .before .unrun-of .ensures) in
+    let s = l .ensures ∙ ap (λ (r : Row). registers r (a .x)) (d .pre .0) in
+    let f = unran-fits (rowOf v) (sound v) (keyNumber (a .key)) (a .to .0) (a .from .0 - a .to .0) (l .result) (loaded-fits (rowOf v) (sound v) (a .x) (d .pre .5) _ s) _ v (c .before .unrun-of .ensures) in
     c .block-of2 .ensures
-    ∙ ap (λ (r : Row). block r (c .before .unrun-of .result) % 2 ^ 64) (d .pre .2)
+    ∙ ap (λ (r : Row). block r (c .before .unrun-of .result) % 2 ^ 64) (d .pre .0)
     ∙ block-in-word (rowOf v) (sound v) (c .before .unrun-of .result) f
     ∙ ap (block (rowOf v)) (c .before .unrun-of .ensures ∙ ap (unrun (rowOf v) (inputOf v (keyNumber (a .key))) (a .to .0) (a .from .0 - a .to .0)) s)
     ∙ sym (at-earlier v (keyNumber (a .key)) (a .from .0) (a .x) (a .to .0) (c .before .before .if1 .left))

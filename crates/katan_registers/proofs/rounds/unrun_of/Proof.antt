@@ -1,114 +1,102 @@
-use mathlib.Core.Path.{_≡_, refl, ap, _∙_}
-use Prim.Native.Nat.{ℕ, suc, _+_, _-_, _≤_}
+use Rattle.katan_keys.specs.Window.{sourceAt}
+use mathlib.Core.Path.{_≡_, sym, ap, subst, _∙_}
+use Prim.Native.Nat.{ℕ, _+_, _-_, _*_, _/_, _%_}
+use native.Mathlib.Nat.{div-add-mod'}
 use native.Mathlib.Omega.{arith}
-use borrow.Author.Needs.{needs}
 use Rattle.katan.specs.Key.{keyNumber}
-use Rattle.katan.specs.Clock.{unround, unrun, inputOf}
-use Rattle.katan.specs.Variant.{rowOf}
-use Rattle.katan.specs.inner.Within.{RegistersFit}
-use Rattle.katan.specs.declared.RoundInput.{RoundInput}
-use Rattle.katan.proofs.Undo.{sound}
-use Rattle.katan_keys.specs.Window.{windowNumber, sourceAt}
+use Rattle.katan.specs.Variant.{rowOf, strideOf}
+use Rattle.katan.proofs.Variants.{strides}
+use Rattle.katan_registers.specs.inner.Tables.{Moves, MovesBack}
 use Rattle.katan_registers.specs.declared.rounds.Running.{Running}
-use Rattle.katan_registers.proofs.Inputs.{input-bits, table-input, source-previous, unround-fits}
+use Rattle.katan_registers.proofs.Laws.{in-parts-back}
+use borrow.Author.Needs.{needs}
 use Rattle.katan_registers.proofs.rounds.unrun_of.Statement.{statement}
 use Rattle.katan_registers.proofs.rounds.unrun_of.Tie as tie
 use Rattle.katan_registers.proofs.rounds.unrun_of.Reads as reads
 use Rattle.katan_registers.proofs.rounds.unrun_of.Lts as lts
 use Rattle.katan_keys.proofs.source_at.Reads as source-at-reads
-use Rattle.katan_registers.proofs.rounds.unround_of.Reads as unround-of-reads
+use Rattle.katan_registers.proofs.rounds.unsingles.Reads as unsingles-reads
+use Rattle.katan_registers.proofs.rounds.unstrides.Reads as unstrides-reads
+use Rattle.katan_variants.proofs.stride.Reads as stride-reads
 
--- the rounds that are left to undo, and the window or key of the position: the next round undone finds its key bits one step behind
-abbrev Left : (v key end left₀ left : ℕ) → Running → Running → Type 0
-Left v key end left₀ left h₀ h =
-    (unrun (rowOf v) (inputOf v key) end (left - end) (h .registers) ≡ unrun (rowOf v) (inputOf v key) end (left₀ - end) (h₀ .registers))
-    × (windowNumber (h .source) ≡ sourceAt v key left)
+stride-requires : tie.Need-stride-requires
+stride-requires c κs = search needs
 
-abbrev Inv-loop : tie.InvT-loop
-Inv-loop variant counters numbers end left₀ h₀ left h =
-    ((key : ℕ) → windowNumber (h₀ .source) ≡ sourceAt variant key left₀ → Left variant key end left₀ left h₀ h)
-    × RegistersFit (rowOf variant) (h .registers)
-    × (end ≤ left)
-    × (left ≤ left₀)
+cast-last : tie.Need-cast-last
+cast-last c = search needs
 
-abbrev μ-loop : tie.MeasureT-loop
-μ-loop variant counters numbers end left₀ h₀ left h = left
+cast-count : tie.Need-cast-count
+cast-count c = search needs
 
-cast-end : tie.Need-cast-end Inv-loop μ-loop
-cast-end c = search needs
+sub-count : tie.Need-sub-count
+sub-count c = search needs
 
-cast-left : tie.Need-cast-left Inv-loop μ-loop
-cast-left c = search needs
-
-source-at-requires : tie.Need-source-at-requires Inv-loop μ-loop
+source-at-requires : tie.Need-source-at-requires
 source-at-requires c κs = search needs
 
-loop-holds : tie.Need-loop-holds Inv-loop μ-loop
-loop-holds c =
-    let d = c .before .before .before in
-    (λ key e. (refl, e), d .pre .3, omega arith, omega arith)
+rem-unstrides : tie.Need-rem-unstrides
+rem-unstrides c = rw (c .before .before .before .stride .ensures) (strides (c .before .before .before .before .args .variant) .0)
 
-sub-left : tie.Need-sub-left Inv-loop μ-loop
-sub-left c = omega arith
+add-unstrides : tie.Need-add-unstrides
+add-unstrides c =
+    let d = c .before .before .before .before in
+    let v = d .args .variant in
+    let e : c .before .before .before .stride .result ≡ strideOf (rowOf v) = c .before .before .before .stride .ensures in
+    let n = d .args .from .0 - d .args .to .0 in
+    record { fits = omega (arith, div-add-mod' n (c .before .before .before .stride .result), d .pre .2, d .pre .3) }
 
-unround-of-requires : tie.Need-unround-of-requires Inv-loop μ-loop
-unround-of-requires c κs =
-    let l = c .before in
-    let d = l .before .before .before .before in
-    (d .pre .0, d .pre .1, omega arith, l .loop .inv .1)
+div-unstrides : tie.Need-div-unstrides
+div-unstrides c = rw (c .before .before .before .stride .ensures) (strides (c .before .before .before .before .args .variant) .0)
 
-loop-less : tie.Need-loop-less Inv-loop μ-loop
-loop-less c = omega arith
+unstrides-requires : tie.Need-unstrides-requires
+unstrides-requires c κs =
+    let d = c .before .before .before .before in
+    let v = d .args .variant in
+    let e : c .before .before .before .stride .result ≡ strideOf (rowOf v) = c .before .before .before .stride .ensures in
+    let n = d .args .from .0 - d .args .to .0 in
+    (rw e (omega (arith, div-add-mod' n (strideOf (rowOf v)), d .pre .2, d .pre .3)), d .pre .0)
 
-loop-again : tie.Need-loop-again Inv-loop μ-loop
-loop-again c =
-    let l = c .before .before .loop in
-    let d = c .before .before .before .before .before .before in
-    let a = d .args in
-    let v = a .variant in
-    let r = l .left - 1 in
-    let w = windowNumber (l .h .source) in
-    let n = r - a .to .0 in
-    let here : r ≡ a .to .0 + n = omega arith in
-    let more : suc n ≡ l .left - a .to .0 = omega arith in
-    let after : l .left ≡ r + 1 = omega arith in
-    let undone = c .unround-of .ensures in (
-      λ key e.
-          let u = inputOf v key in
-          let before = l .inv .0 key e in
-          let source = source-previous v key r w (before .1 ∙ ap (sourceAt v key) after) in
-          let input = table-input v key (a .counters .now) (a .numbers .now) (d .pre .2) r _ (omega arith) source in (
-            ap (unrun (rowOf v) u (a .to .0) n) (undone .0 ∙ ap (λ (x : RoundInput). unround (rowOf v) x (l .h .registers)) (input ∙ ap u here))
-                ∙ ap (λ (m : ℕ). unrun (rowOf v) u (a .to .0) m (l .h .registers)) more
-                ∙ before .0,
-            undone .1 ∙ source,
-          ),
-      unround-fits (rowOf v) (sound v) _ (input-bits v (a .counters .now) (a .numbers .now) r _ _ refl) (l .h .registers) (l .inv .1) _ (undone .0),
-      omega arith,
-      omega arith,
-    )
+rem-unsingles : tie.Need-rem-unsingles
+rem-unsingles c = rw (c .before .before .before .before .stride .ensures) (strides (c .before .before .before .before .before .args .variant) .0)
 
-returns : tie.Need-returns Inv-loop μ-loop
+unsingles-requires : tie.Need-unsingles-requires
+unsingles-requires c κs =
+    let d = c .before .before .before .before .before in
+    let v = d .args .variant in
+    let e : c .before .before .before .before .stride .result ≡ strideOf (rowOf v) = c .before .before .before .before .stride .ensures in
+    let n = d .args .from .0 - d .args .to .0 in
+    (omega (arith, div-add-mod' n (c .before .before .before .before .stride .result), d .pre .2, d .pre .3), d .pre .0)
+
+returns : tie.Need-returns
 returns c =
-    let l = c .before .before .loop in
-    let d = c .before .before .before .before .before .before in
+    let d = c .before .before .before .before .before .before .before in
+    let v = d .args .variant in
+    let e : c .before .before .before .before .before .before .stride .result ≡ strideOf (rowOf v) = c .before .before .before .before .before .before .stride .ensures in
+    let n = d .args .from .0 - d .args .to .0 in
     let a = d .args in
-    let none : 0 ≡ l .left - a .to .0 = omega arith in
-    ap (λ (n : ℕ). unrun (rowOf (a .variant)) (inputOf (a .variant) (keyNumber (a .key))) (a .to .0) n (l .h .registers)) none
-    ∙ l .inv .0 (keyNumber (a .key)) (c .before .before .before .source-at .ensures) .0
+    let key = keyNumber (a .key) in
+    let s = c .before .before .before .before .before .before .stride .result in
+    let start : Running = record { registers = a .s; source = c .before .before .before .source-at .result } in
+    let there : a .from .0 ≡ a .to .0 + n = omega (arith, d .pre .2) in
+    let h = c .before .before .unstrides .result in
+    let t = c .before .unsingles .result in
+    let first : MovesBack v key (a .to .0 + n % s) (n / s * s) start h
+    = subst (λ (x : ℕ). MovesBack v key (a .to .0 + n % s) (n / s * x) start h) (sym e) (c .before .before .unstrides .ensures key (d .pre .1)) in
+    in-parts-back v key s n start h t (a .to .0) first (c .before .unsingles .ensures key) (c .before .before .before .source-at .ensures ∙ ap (sourceAt v key) there) .0
 
 pub unrun-of-spec : {M : Type 1} → statement M
 unrun-of-spec =
     tie.close
     (tie.spec
-    Inv-loop
-    μ-loop
-    cast-end
-    cast-left
+    stride-requires
+    cast-last
+    cast-count
+    sub-count
     source-at-requires
-    loop-holds
-    sub-left
-    unround-of-requires
-    loop-less
-    loop-again
+    rem-unstrides
+    add-unstrides
+    div-unstrides
+    unstrides-requires
+    rem-unsingles
+    unsingles-requires
     returns)

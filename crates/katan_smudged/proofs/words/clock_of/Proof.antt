@@ -10,49 +10,25 @@ use Rattle.katan_smudged.proofs.words.clock_32.Reads as clock-32-reads
 use Rattle.katan_smudged.proofs.words.clock_48.Reads as clock-48-reads
 use Rattle.katan_smudged.proofs.words.clock_64.Reads as clock-64-reads
 
-clock-32-requires : tie.Need-clock-32-requires
-clock-32-requires c κs =
-    let b = c in
-    let d = b .before in
-    let v = d .args .variant in
-    rw (is-row32 v (b .match .keys1)) (d .pre .2)
-
 clock-48-requires : tie.Need-clock-48-requires
-clock-48-requires c κs =
-    let b = c in
-    let d = b .before in
-    let v = d .args .variant in
-    rw (is-row48 v (b .match .keys2)) (d .pre .2)
+clock-48-requires c κs = rw (is-row48 _ (c .match .keys1)) (c .before .pre .2)
 
 clock-64-requires : tie.Need-clock-64-requires
-clock-64-requires c κs =
-    let b = c in
-    let d = b .before in
-    let v = d .args .variant in
-    rw (is-row64 v (d .pre .0) (d .pre .1) (b .match .rest .0 .1) (b .match .rest .1)) (d .pre .2)
+clock-64-requires c κs = rw (is-row64 _ (c .match .keys2)) (c .before .pre .2)
+
+clock-32-requires : tie.Need-clock-32-requires
+clock-32-requires c κs = rw (is-row32 _ (c .match .rest .0 .1) (c .match .rest .1)) (c .before .pre .2)
 
 returns : tie.Need-returns
-returns c =
-    let b = c .before in
-    let d = b .before in
-    let v = d .args .variant in
-    c .clock-32 .ensures ∙ ap (λ (r : Row). clockWords r (d .args .u) (d .args .s)) (is-row32 v (b .match .keys1))
+returns c = c .clock-48 .ensures ∙ ap (λ (r : Row). clockWords r (c .before .before .args .u) (c .before .before .args .s)) (is-row48 _ (c .before .match .keys1))
 
 returns-2 : tie.Need-returns-2
-returns-2 c =
-    let b = c .before in
-    let d = b .before in
-    let v = d .args .variant in
-    c .clock-48 .ensures ∙ ap (λ (r : Row). clockWords r (d .args .u) (d .args .s)) (is-row48 v (b .match .keys2))
+returns-2 c = c .clock-64 .ensures ∙ ap (λ (r : Row). clockWords r (c .before .before .args .u) (c .before .before .args .s)) (is-row64 _ (c .before .match .keys2))
 
 returns-3 : tie.Need-returns-3
-returns-3 c =
-    let b = c .before in
-    let d = b .before in
-    let v = d .args .variant in
-    c .clock-64 .ensures ∙ ap (λ (r : Row). clockWords r (d .args .u) (d .args .s)) (is-row64 v (d .pre .0) (d .pre .1) (b .match .rest .0 .1) (b .match .rest .1))
+returns-3 c = c .clock-32 .ensures ∙ ap (λ (r : Row). clockWords r (c .before .before .args .u) (c .before .before .args .s)) (is-row32 _ (c .before .match .rest .0 .1) (c .before .match .rest .1))
 
 pub clock-of-spec : {M : Type 1} → statement M
 clock-of-spec =
     tie.close
-    (tie.spec clock-32-requires clock-48-requires clock-64-requires returns returns-2 returns-3)
+    (tie.spec clock-48-requires clock-64-requires clock-32-requires returns returns-2 returns-3)

@@ -1,0 +1,4 @@
+pub mod AtOnce
+pub mod Rounds
+pub mod Shifts
+pub mod Steps

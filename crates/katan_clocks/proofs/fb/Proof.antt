@@ -1,0 +1,39 @@
+use borrow.Author.Needs.{needs}
+use Rattle.katan_clocks.proofs.fb.Statement.{statement}
+use Rattle.katan_clocks.proofs.fb.Tie as tie
+use Rattle.katan_clocks.proofs.fb.Reads as reads
+use Rattle.katan_clocks.proofs.fb.Lts as lts
+use Rattle.katan_clocks.proofs.tap.Reads as tap-reads
+
+tap-requires : tie.Need-tap-requires
+tap-requires c κs = search needs
+
+tap-requires-2 : tie.Need-tap-requires-2
+tap-requires-2 c κs = search needs
+
+tap-requires-3 : tie.Need-tap-requires-3
+tap-requires-3 c κs = search needs
+
+tap-requires-4 : tie.Need-tap-requires-4
+tap-requires-4 c κs = search needs
+
+tap-requires-5 : tie.Need-tap-requires-5
+tap-requires-5 c κs = search needs
+
+tap-requires-6 : tie.Need-tap-requires-6
+tap-requires-6 c κs = search needs
+
+returns : tie.Need-returns
+returns c = cc
+
+pub fb-spec : {M : Type 1} → statement M
+fb-spec =
+    tie.close
+    (tie.spec
+    tap-requires
+    tap-requires-2
+    tap-requires-3
+    tap-requires-4
+    tap-requires-5
+    tap-requires-6
+    returns)

@@ -1,0 +1,24 @@
+use mathlib.Core.Path.{ap, _∙_}
+use native.Mathlib.Omega.{arith}
+use Rattle.katan.specs.declared.Row.{Row}
+use Rattle.katan_clocks.specs.Clocks.{clocksBy}
+use Rattle.katan_clocks.proofs.Steps.{can-go}
+use borrow.Author.Needs.{needs}
+use Rattle.katan_clocks.proofs.rounds_64.Statement.{statement}
+use Rattle.katan_clocks.proofs.rounds_64.Tie as tie
+use Rattle.katan_clocks.proofs.rounds_64.Reads as reads
+use Rattle.katan_clocks.proofs.rounds_64.Lts as lts
+use Rattle.katan_clocks.proofs.at_once.Reads as at-once-reads
+use Rattle.katan_variants.proofs.row_64.Reads as row-64-reads
+
+row-64-requires : tie.Need-row-64-requires
+row-64-requires c κs = search needs
+
+at-once-requires : tie.Need-at-once-requires
+at-once-requires c κs = can-go 3 (c .row-64 .result) (c .row-64 .ensures) 9 (omega arith) (omega arith)
+
+returns : tie.Need-returns
+returns c = c .at-once .ensures ∙ ap (λ (r : Row). clocksBy r 9 (c .before .before .args .w) (c .before .before .args .s)) (c .before .row-64 .ensures)
+
+pub rounds-64-spec : {M : Type 1} → statement M
+rounds-64-spec = tie.close (tie.spec row-64-requires at-once-requires returns)
