@@ -11,8 +11,8 @@ use Rattle.katan.specs.inner.Within.{Bits}
 use Rattle.katan.specs.declared.Row.{Row}
 use Rattle.katan.specs.declared.Registers.{Registers}
 use Rattle.katan.specs.declared.RoundInput.{RoundInput}
-use Rattle.katan_clocks.specs.Clocks.{lowest, earlier, clocksBy, unclocksBy, beside, wordsOf}
-use Rattle.katan_clocks.specs.inner.Words.{inEach}
+use Rattle.katan_clocks.specs.Clocks.{lowest, earlier, clocksBy, unclocksBy}
+use Rattle.katan_clocks.specs.inner.Words.{inEach, beside, wordsOf}
 
 -- x above k places that all have the bit b
 abbrev over : (k x b : ℕ) → ℕ

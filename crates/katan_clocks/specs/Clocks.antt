@@ -1,6 +1,6 @@
 -- Clocks whose inputs stand in words: IR, ka and kb of the clocks one beside the other, the first clock's highest.
 -- Assumes nothing.
-use Prim.Native.Nat.{ℕ, zero, suc, _+_, _-_, _*_, _/_, _%_, _^_}
+use Prim.Native.Nat.{ℕ, zero, suc, _*_, _/_, _%_}
 use Rattle.katan.specs.Clock.{clock, unclock}
 use Rattle.katan.specs.Variant.{strideOf}
 use Rattle.katan.specs.declared.Row.{Row}
@@ -28,17 +28,3 @@ unclocksBy v (suc c) w s = unclocksBy v c (earlier w) (unclock v (lowest w) s)
 -- the clocks of the rounds that are worked at once
 abbrev pub strideClocks : Row → ℕ
 strideClocks v = strideOf v * v .clocks
-
--- n numbers of c bits one beside the other, the first highest
-abbrev pub beside : ℕ → (ℕ → ℕ) → ℕ → ℕ
-beside c f zero = 0
-beside c f (suc n) = beside c f n * 2 ^ c + f n
-
--- the words of n rounds of c clocks: each bit of a round stands in each of its clocks
-abbrev pub wordsOf : ℕ → (ℕ → RoundInput) → ℕ → RoundInput
-wordsOf c u n =
-    record {
-      ir = beside c (λ j. u j .ir) n * (2 ^ c - 1);
-      ka = beside c (λ j. u j .ka) n * (2 ^ c - 1);
-      kb = beside c (λ j. u j .kb) n * (2 ^ c - 1);
-    }

@@ -15,7 +15,7 @@ use katan::Row;
 
 // What c clocks find at place i of a register, the first clock's highest.
 fn tap(c: usize, l: u64, i: usize) -> u64
-    requires { ⌜ (i < wordBits) × (1 ≤ c) × (c ≤ i + 1) ⌝ }
+    requires { ⌜ (i + 1 < wordBits) × (1 ≤ c) × (c ≤ i + 1) ⌝ }
     ensures { λ r. ⌜ r ≡ tapOf c l i ⌝ }
 {
     l >> (i + 1 - c)

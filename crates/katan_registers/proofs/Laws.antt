@@ -26,7 +26,8 @@ use Rattle.katan.proofs.Undo.{run-fits, unrun-fits, run-add, unrun-add}
 use Rattle.katan.proofs.Positions.{registers-fit}
 use Rattle.katan_keys.specs.Window.{windowNumber, longestStep, windowAt, ahead, behind, sourceAt, nextSource, previousSource}
 use Rattle.katan_keys.proofs.Running.{running-window}
-use Rattle.katan_clocks.specs.Clocks.{lowest, beside, wordsOf, clocksBy, unclocksBy, strideClocks}
+use Rattle.katan_clocks.specs.Clocks.{lowest, clocksBy, unclocksBy, strideClocks}
+use Rattle.katan_clocks.specs.inner.Words.{beside, wordsOf}
 use Rattle.katan_clocks.proofs.Rounds.{rounds-by-words, unrounds-by-words}
 use Rattle.katan_registers.specs.declared.rounds.Running.{Running}
 use Rattle.katan_registers.specs.inner.Tables.{Tables, Named, KeyBits, tableInput, keyBit, roundsInput, Moves, MovesBack}
@@ -146,6 +147,15 @@ three-beside c f e g h = rw (e, g, h, zero-mul (2 ^ c), zero-add (f 0))
 
 pub four-beside : (f : ℕ → ℕ) {x y z t : ℕ} → x ≡ f 0 → y ≡ f 1 → z ≡ f 2 → t ≡ f 3 → ((x * 2 + y) * 2 + z) * 2 + t ≡ beside 1 f 4 * (2 ^ 1 - 1)
 four-beside f e g h i = rw (e, g, h, i) (omega arith)
+
+-- the four highest bits of a byte
+pub four-irs : (t : ℕ) → t < 2 ^ 8 → t / 2 ^ 4 ≡ beside 1 (λ j. bit t (7 - j)) 4 * (2 ^ 1 - 1)
+four-irs t h =
+    let first : t / 128 ≡ t / 128 % 2 = omega arith in
+    let second : t / 64 ≡ t / 128 * 2 + t / 64 % 2 = omega arith in
+    let third : t / 32 ≡ t / 64 * 2 + t / 32 % 2 = omega arith in
+    let fourth : t / 16 ≡ t / 32 * 2 + t / 16 % 2 = omega arith in
+    omega (arith, first, second, third, fourth)
 
 -- numbers of a byte, c of 3 or less: nothing leaves the word
 module _ (c x y z : ℕ) (few : c ≤ 3) (p : x < 2 ^ 8) (q : y < 2 ^ 8) (r : z < 2 ^ 8) where

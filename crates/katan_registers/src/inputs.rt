@@ -5,7 +5,7 @@ ghost use lib.ListN.{getD};
 ghost use Rattle.katan.specs.Bit.{bit};
 ghost use Rattle.katan.specs.Counter.{rounds};
 ghost use Rattle.katan_keys.specs.Window.{windowNumber};
-ghost use Rattle.katan_clocks.specs.Clocks.{beside, wordsOf};
+ghost use Rattle.katan_clocks.specs.inner.Words.{beside, wordsOf};
 ghost use Rattle.katan_registers.specs.inner.Tables.{inputFrom, tableInput, Named, keyBit, roundsInput};
 use katan::RoundInput;
 use katan_keys::Window;
@@ -79,13 +79,7 @@ fn ir_4(counters: &[u8; katan::ROUND_COUNT], r: usize) -> u64
     requires { ⌜ r < rounds ⌝ }
     ensures { λ x. ⌜ x ≡ beside 1 (λ j. bit (getD (now (counters .entry)) r 0) (7 - j)) 4 * (2 ^ 1 - 1) ⌝ }
 {
-    let t = wide(counters[r]);
-    four(
-        katan_numbers::bit_of(t, 7),
-        katan_numbers::bit_of(t, 6),
-        katan_numbers::bit_of(t, 5),
-        katan_numbers::bit_of(t, 4),
-    )
+    wide(counters[r]) >> 4
 }
 
 // KATAN: every second bit of the window, from bit i on.

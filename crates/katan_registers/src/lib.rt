@@ -7,7 +7,6 @@ ghost use Rattle.katan.specs.Variant.{rowOf, widthOf};
 ghost use Rattle.katan.specs.Machine.{registersAt};
 ghost use Rattle.katan_registers.specs.Answers.{blockOutcome, registersAnswer};
 ghost use Rattle.katan_registers.specs.Inputs.{roundInput};
-ghost use Rattle.katan_registers.specs.inner.Tables.{KeyBits};
 use crate::inputs::input_of;
 use crate::rounds::by_tables;
 use katan::Key;
@@ -26,16 +25,6 @@ pub enum Answer {
     Refused(Refusal),
 }
 
-// The bits from which the rounds of a KTANTAN pick; a KATAN's take theirs from the window.
-fn picks_from(variant: u8, key: Key) -> [u8; katan::KEY_BITS]
-    ensures { λ r. ⌜ KeyBits variant (keyNumber key) r ⌝ }
-{
-    if katan_variants::is_katan(variant) {
-        return [0; katan::KEY_BITS];
-    }
-    katan_keys::key_bits(key)
-}
-
 // The registers at one position of x loaded at another.
 fn registers_between(
     variant: u8,
@@ -50,8 +39,7 @@ fn registers_between(
 {
     let counters = katan_variants::counters();
     let numbers = katan_variants::key_bit_numbers();
-    let bits = picks_from(variant, key);
-    by_tables(variant, row, &counters, &numbers, &bits, key, from, to, x)
+    by_tables(variant, row, &counters, &numbers, key, from, to, x)
 }
 
 // The registers of a block, from one position to another, either way.

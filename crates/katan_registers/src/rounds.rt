@@ -145,8 +145,8 @@ fn unstride_of(
     }
 }
 
-// n strides from round r on.
-fn strides(
+// n strides from round r on, with the bits from which the rounds of a KTANTAN pick.
+fn strides_by(
     variant: u8,
     counters: &[u8; katan::ROUND_COUNT],
     numbers: &[u8; katan::ROUND_KEYS],
@@ -185,8 +185,8 @@ fn singles(
     t
 }
 
-// n strides undone, down to round r.
-fn unstrides(
+// The same undone, down to round r.
+fn unstrides_by(
     variant: u8,
     counters: &[u8; katan::ROUND_COUNT],
     numbers: &[u8; katan::ROUND_KEYS],
@@ -229,23 +229,73 @@ fn unsingles(
     t
 }
 
+// The bits from which the rounds of a KTANTAN pick; a KATAN's take theirs from the window.
+fn picks_from(variant: u8, key: Key) -> [u8; katan::KEY_BITS]
+    ensures { λ r. ⌜ KeyBits variant (keyNumber key) r ⌝ }
+{
+    if katan_variants::is_katan(variant) {
+        return [0; katan::KEY_BITS];
+    }
+    katan_keys::key_bits(key)
+}
+
+// n strides from round r on. Where there are none, as in a move of one round, the key's bits need not be written out.
+fn strides(
+    variant: u8,
+    counters: &[u8; katan::ROUND_COUNT],
+    numbers: &[u8; katan::ROUND_KEYS],
+    key: Key,
+    r: usize,
+    n: usize,
+    h: Running,
+) -> Running
+    requires { ⌜ (r + n * strideOf (rowOf variant) ≤ rounds) × Tables (now counters) (now numbers) ⌝ }
+    ensures { λ t. ⌜ Moves variant (keyNumber key) r (n * strideOf (rowOf variant)) h t ⌝ }
+{
+    if n == 0 {
+        return h;
+    }
+    let bits = picks_from(variant, key);
+    strides_by(variant, counters, numbers, &bits, r, n, h)
+}
+
+// n strides undone, down to round r.
+fn unstrides(
+    variant: u8,
+    counters: &[u8; katan::ROUND_COUNT],
+    numbers: &[u8; katan::ROUND_KEYS],
+    key: Key,
+    r: usize,
+    n: usize,
+    h: Running,
+) -> Running
+    requires { ⌜ (r + n * strideOf (rowOf variant) ≤ rounds) × Tables (now counters) (now numbers) ⌝ }
+    ensures { λ t. ⌜ MovesBack variant (keyNumber key) r (n * strideOf (rowOf variant)) h t ⌝ }
+{
+    if n == 0 {
+        return h;
+    }
+    let bits = picks_from(variant, key);
+    unstrides_by(variant, counters, numbers, &bits, r, n, h)
+}
+
 // The rounds from one position to a later one.
 fn run_of(
     variant: u8,
     counters: &[u8; katan::ROUND_COUNT],
     numbers: &[u8; katan::ROUND_KEYS],
-    bits: &[u8; katan::KEY_BITS],
     key: Key,
     from: RoundPosition,
     to: RoundPosition,
     s: Registers,
 ) -> Registers
-    requires { ⌜ Tables (now counters) (now numbers) × KeyBits variant (keyNumber key) (now bits) × (from .0 ≤ to .0) × (to .0 ≤ rounds) ⌝ }
+    requires { ⌜ Tables (now counters) (now numbers) × (from .0 ≤ to .0) × (to .0 ≤ rounds) ⌝ }
     ensures { λ r. ⌜ r ≡ run (rowOf variant) (inputOf variant (keyNumber key)) (from .0) (to .0 - from .0) s ⌝ }
 {
     let stride = katan_variants::stride(variant);
     let first = from.0 as usize;
     let count = to.0 as usize - first;
+    let rest = count % stride;
     let start = Running {
         registers: s,
         source: katan_keys::source_at(variant, key, from),
@@ -254,19 +304,13 @@ fn run_of(
         variant,
         counters,
         numbers,
-        bits,
+        key,
         first,
         count / stride,
         start,
     );
-    singles(
-        variant,
-        counters,
-        numbers,
-        to.0 as usize - count % stride,
-        count % stride,
-        h,
-    ).registers
+    let t = singles(variant, counters, numbers, to.0 as usize - rest, rest, h);
+    t.registers
 }
 
 // The same rounds undone, the last first.
@@ -274,18 +318,18 @@ fn unrun_of(
     variant: u8,
     counters: &[u8; katan::ROUND_COUNT],
     numbers: &[u8; katan::ROUND_KEYS],
-    bits: &[u8; katan::KEY_BITS],
     key: Key,
     from: RoundPosition,
     to: RoundPosition,
     s: Registers,
 ) -> Registers
-    requires { ⌜ Tables (now counters) (now numbers) × KeyBits variant (keyNumber key) (now bits) × (to .0 ≤ from .0) × (from .0 ≤ rounds) ⌝ }
+    requires { ⌜ Tables (now counters) (now numbers) × (to .0 ≤ from .0) × (from .0 ≤ rounds) ⌝ }
     ensures { λ r. ⌜ r ≡ unrun (rowOf variant) (inputOf variant (keyNumber key)) (to .0) (from .0 - to .0) s ⌝ }
 {
     let stride = katan_variants::stride(variant);
     let last = to.0 as usize;
     let count = from.0 as usize - last;
+    let left = count % stride;
     let start = Running {
         registers: s,
         source: katan_keys::source_at(variant, key, from),
@@ -294,39 +338,32 @@ fn unrun_of(
         variant,
         counters,
         numbers,
-        bits,
-        last + count % stride,
+        key,
+        last + left,
         count / stride,
         start,
     );
-    unsingles(variant, counters, numbers, last, count % stride, h).registers
+    unsingles(variant, counters, numbers, last, left, h).registers
 }
 
-// The registers at one position of x loaded at another, with T of each round, KTANTAN's key bit numbers and its key bits.
+// The registers at one position of x loaded at another, with T of each round and KTANTAN's key bit numbers.
 pub fn by_tables(
     variant: u8,
     row: Row,
     counters: &[u8; katan::ROUND_COUNT],
     numbers: &[u8; katan::ROUND_KEYS],
-    bits: &[u8; katan::KEY_BITS],
     key: Key,
     from: RoundPosition,
     to: RoundPosition,
     x: u64,
 ) -> u64
-    requires { ⌜ (row ≡ rowOf variant) × Tables (now counters) (now numbers) × KeyBits variant (keyNumber key) (now bits) × (from .0 ≤ rounds) × (to .0 ≤ rounds) × (x < 2 ^ widthOf variant) ⌝ }
+    requires { ⌜ (row ≡ rowOf variant) × Tables (now counters) (now numbers) × (from .0 ≤ rounds) × (to .0 ≤ rounds) × (x < 2 ^ widthOf variant) ⌝ }
     ensures { λ r. ⌜ r ≡ registersAt variant (keyNumber key) (from .0) x (to .0) ⌝ }
 {
     let s = katan_numbers::registers_of(row, x);
     if from.0 <= to.0 {
-        katan_numbers::block_of(
-            row,
-            run_of(variant, counters, numbers, bits, key, from, to, s),
-        )
+        katan_numbers::block_of(row, run_of(variant, counters, numbers, key, from, to, s))
     } else {
-        katan_numbers::block_of(
-            row,
-            unrun_of(variant, counters, numbers, bits, key, from, to, s),
-        )
+        katan_numbers::block_of(row, unrun_of(variant, counters, numbers, key, from, to, s))
     }
 }

@@ -15,7 +15,7 @@ row-48-requires : tie.Need-row-48-requires
 row-48-requires c κs = search needs
 
 at-once-requires : tie.Need-at-once-requires
-at-once-requires c κs = can-go 2 (c .row-48 .result) (c .row-48 .ensures) 6 (omega arith) (omega arith)
+at-once-requires c κs = can-go 2 _ (c .row-48 .ensures) _ (omega arith) (omega arith)
 
 returns : tie.Need-returns
 returns c = c .at-once .ensures ∙ ap (λ (r : Row). clocksBy r 6 (c .before .before .args .w) (c .before .before .args .s)) (c .before .row-48 .ensures)

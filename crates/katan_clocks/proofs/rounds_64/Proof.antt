@@ -15,7 +15,7 @@ row-64-requires : tie.Need-row-64-requires
 row-64-requires c κs = search needs
 
 at-once-requires : tie.Need-at-once-requires
-at-once-requires c κs = can-go 3 (c .row-64 .result) (c .row-64 .ensures) 9 (omega arith) (omega arith)
+at-once-requires c κs = can-go 3 _ (c .row-64 .ensures) _ (omega arith) (omega arith)
 
 returns : tie.Need-returns
 returns c = c .at-once .ensures ∙ ap (λ (r : Row). clocksBy r 9 (c .before .before .args .w) (c .before .before .args .s)) (c .before .row-64 .ensures)

@@ -1,6 +1,7 @@
--- What the private functions say: several clocks as one formula over words. No promise of a public function cites it.
+-- What private functions say: several clocks as one formula over words, and the words of several rounds. No promise of a public function
+-- cites it.
 -- Assumes nothing.
-use Prim.Native.Nat.{ℕ, _+_, _-_, _*_, _/_, _%_, _^_}
+use Prim.Native.Nat.{ℕ, zero, suc, _+_, _-_, _*_, _/_, _%_, _^_}
 use Rattle.katan.specs.Bit.{xor, and}
 use Rattle.katan.specs.Clock.{fa, fb, faRest, fbRest}
 use Rattle.katan.specs.declared.Row.{Row}
@@ -42,3 +43,17 @@ without c w = record { ir = w .ir / 2 ^ c; ka = w .ka / 2 ^ c; kb = w .kb / 2 ^ 
 -- one round's input, in each of its c clocks
 abbrev pub inEach : ℕ → RoundInput → RoundInput
 inEach c u = record { ir = u .ir % 2 * (2 ^ c - 1); ka = u .ka % 2 * (2 ^ c - 1); kb = u .kb % 2 * (2 ^ c - 1) }
+
+-- n numbers of c bits one beside the other, the first highest
+abbrev pub beside : ℕ → (ℕ → ℕ) → ℕ → ℕ
+beside c f zero = 0
+beside c f (suc n) = beside c f n * 2 ^ c + f n
+
+-- the words of n rounds of c clocks: each bit of a round stands in each of its clocks
+abbrev pub wordsOf : ℕ → (ℕ → RoundInput) → ℕ → RoundInput
+wordsOf c u n =
+    record {
+      ir = beside c (λ j. u j .ir) n * (2 ^ c - 1);
+      ka = beside c (λ j. u j .ka) n * (2 ^ c - 1);
+      kb = beside c (λ j. u j .kb) n * (2 ^ c - 1);
+    }

@@ -1,16 +1,12 @@
-use mathlib.Core.Path.{_≡_, sym, ap, _∙_}
-use Prim.Native.Nat.{ℕ, _+_, _-_, _*_}
-use native.Mathlib.Nat.{add-zero}
+use mathlib.Core.Path.{subst}
+use Prim.Native.Nat.{ℕ, _<_, _^_}
 use lib.ListN.{getD}
-use Rattle.katan.specs.Bit.{bit}
-use Rattle.katan_registers.proofs.Laws.{four-beside}
+use Rattle.katan_registers.proofs.Laws.{four-irs}
 use borrow.Author.Needs.{needs}
 use Rattle.katan_registers.proofs.inputs.ir_4.Statement.{statement}
 use Rattle.katan_registers.proofs.inputs.ir_4.Tie as tie
 use Rattle.katan_registers.proofs.inputs.ir_4.Reads as reads
 use Rattle.katan_registers.proofs.inputs.ir_4.Lts as lts
-use Rattle.katan_numbers.proofs.bit_of.Reads as bit-of-reads
-use Rattle.katan_registers.proofs.inputs.four.Reads as four-reads
 use Rattle.katan_registers.proofs.inputs.wide.Reads as wide-reads
 
 element-copy-out-wide : tie.Need-element-copy-out-wide
@@ -19,36 +15,10 @@ element-copy-out-wide c = search needs
 wide-requires : tie.Need-wide-requires
 wide-requires c κs = search needs
 
-bit-of-requires : tie.Need-bit-of-requires
-bit-of-requires c κs = search needs
-
-bit-of-requires-2 : tie.Need-bit-of-requires-2
-bit-of-requires-2 c κs = search needs
-
-bit-of-requires-3 : tie.Need-bit-of-requires-3
-bit-of-requires-3 c κs = search needs
-
-bit-of-requires-4 : tie.Need-bit-of-requires-4
-bit-of-requires-4 c κs = search needs
-
-four-requires : tie.Need-four-requires
-four-requires c κs = search needs
-
 returns : tie.Need-returns
 returns c =
-    let a = c .before .before .before .before .before .before .before .args in
-    let t = c .before .before .before .before .before .wide .ensures .0 in
-    c .four .ensures ∙ four-beside (λ j. bit (getD (a .counters .now) (a .r) 0) (7 - j)) (c .before .before .before .before .bit-of .ensures ∙ ap (λ (t : ℕ). bit t 7) t) (c .before .before .before .bit-of2 .ensures ∙ ap (λ (t : ℕ). bit t 6) t) (c .before .before .bit-of3 .ensures ∙ ap (λ (t : ℕ). bit t 5) t) (c .before .bit-of4 .ensures ∙ ap (λ (t : ℕ). bit t 4) t)
+    let a = c .before .before .args in
+    rw (c .wide .ensures .0) (four-irs (getD (a .counters .now) (a .r) 0) (subst (λ (x : ℕ). x < 2 ^ 8) (c .wide .ensures .0) (c .wide .ensures .1)))
 
 pub ir-4-spec : {M : Type 1} → statement M
-ir-4-spec =
-    tie.close
-    (tie.spec
-    element-copy-out-wide
-    wide-requires
-    bit-of-requires
-    bit-of-requires-2
-    bit-of-requires-3
-    bit-of-requires-4
-    four-requires
-    returns)
+ir-4-spec = tie.close (tie.spec element-copy-out-wide wide-requires returns)

@@ -22,13 +22,13 @@ registers-of-requires : tie.Need-registers-of-requires
 registers-of-requires c κs = search needs
 
 run-of-requires : tie.Need-run-of-requires
-run-of-requires c κs = let d = c .before .before .before .before in (d .pre .1, d .pre .2, omega arith, omega arith)
+run-of-requires c κs = let d = c .before .before .before .before in (d .pre .1, omega arith, omega arith)
 
 block-of-requires : tie.Need-block-of-requires
 block-of-requires c κs = search needs
 
 unrun-of-requires : tie.Need-unrun-of-requires
-unrun-of-requires c κs = let d = c .before .before .before .before in (d .pre .1, d .pre .2, omega arith, omega arith)
+unrun-of-requires c κs = let d = c .before .before .before .before in (d .pre .1, omega arith, omega arith)
 
 block-of-requires-2 : tie.Need-block-of-requires-2
 block-of-requires-2 c κs = search needs
@@ -40,7 +40,7 @@ returns c =
     let v = a .variant in
     let l = c .before .before .before .before .before .registers-of in
     let s = l .ensures ∙ ap (λ (r : Row). registers r (a .x)) (d .pre .0) in
-    let f = ran-fits (rowOf v) (sound v) (keyNumber (a .key)) (a .from .0) (a .to .0 - a .from .0) (l .result) (loaded-fits (rowOf v) (sound v) (a .x) (d .pre .5) _ s) _ v (c .before .run-of .ensures) in
+    let f = ran-fits (rowOf v) (sound v) (keyNumber (a .key)) (a .from .0) (a .to .0 - a .from .0) (l .result) (loaded-fits (rowOf v) (sound v) (a .x) (d .pre .4) _ s) _ v (c .before .run-of .ensures) in
     c .block-of .ensures
     ∙ ap (λ (r : Row). block r (c .before .run-of .result) % 2 ^ 64) (d .pre .0)
     ∙ block-in-word (rowOf v) (sound v) (c .before .run-of .result) f
@@ -54,7 +54,7 @@ returns-2 c =
     let v = a .variant in
     let l = c .before .before .before .before .before .registers-of in
     let s = l .ensures ∙ ap (λ (r : Row). registers r (a .x)) (d .pre .0) in
-    let f = unran-fits (rowOf v) (sound v) (keyNumber (a .key)) (a .to .0) (a .from .0 - a .to .0) (l .result) (loaded-fits (rowOf v) (sound v) (a .x) (d .pre .5) _ s) _ v (c .before .unrun-of .ensures) in
+    let f = unran-fits (rowOf v) (sound v) (keyNumber (a .key)) (a .to .0) (a .from .0 - a .to .0) (l .result) (loaded-fits (rowOf v) (sound v) (a .x) (d .pre .4) _ s) _ v (c .before .unrun-of .ensures) in
     c .block-of2 .ensures
     ∙ ap (λ (r : Row). block r (c .before .unrun-of .result) % 2 ^ 64) (d .pre .0)
     ∙ block-in-word (rowOf v) (sound v) (c .before .unrun-of .result) f

@@ -30,6 +30,9 @@ cast-count c = search needs
 sub-count : tie.Need-sub-count
 sub-count c = search needs
 
+rem-rest : tie.Need-rem-rest
+rem-rest c = rw (c .before .before .stride .ensures) (strides (c .before .before .before .args .variant) .0)
+
 source-at-requires : tie.Need-source-at-requires
 source-at-requires c κs = search needs
 
@@ -42,13 +45,10 @@ strides-requires c κs =
     let v = d .args .variant in
     let e : c .before .before .before .stride .result ≡ strideOf (rowOf v) = c .before .before .before .stride .ensures in
     let n = d .args .to .0 - d .args .from .0 in
-    (rw e (omega (arith, div-add-mod' n (strideOf (rowOf v)), d .pre .2, d .pre .3)), d .pre .0)
+    (rw e (omega (arith, div-add-mod' n (strideOf (rowOf v)), d .pre .1, d .pre .2)), d .pre .0)
 
 cast-singles : tie.Need-cast-singles
 cast-singles c = search needs
-
-rem-singles : tie.Need-rem-singles
-rem-singles c = rw (c .before .before .before .before .before .stride .ensures) (strides (c .before .before .before .before .before .before .args .variant) .0)
 
 sub-singles : tie.Need-sub-singles
 sub-singles c =
@@ -58,16 +58,13 @@ sub-singles c =
     let n = d .args .to .0 - d .args .from .0 in
     omega (arith, div-add-mod' n (c .before .before .before .before .before .stride .result))
 
-rem-singles-2 : tie.Need-rem-singles-2
-rem-singles-2 c = rw (c .before .before .before .before .before .stride .ensures) (strides (c .before .before .before .before .before .before .args .variant) .0)
-
 singles-requires : tie.Need-singles-requires
 singles-requires c κs =
     let d = c .before .before .before .before .before .before in
     let v = d .args .variant in
     let e : c .before .before .before .before .before .stride .result ≡ strideOf (rowOf v) = c .before .before .before .before .before .stride .ensures in
     let n = d .args .to .0 - d .args .from .0 in
-    (omega (arith, div-add-mod' n (c .before .before .before .before .before .stride .result), d .pre .2, d .pre .3), d .pre .0)
+    (omega (arith, div-add-mod' n (c .before .before .before .before .before .stride .result), d .pre .1, d .pre .2), d .pre .0)
 
 returns : tie.Need-returns
 returns c =
@@ -79,10 +76,10 @@ returns c =
     let key = keyNumber (a .key) in
     let s = c .before .before .before .before .before .before .before .stride .result in
     let start : Running = record { registers = a .s; source = c .before .before .before .before .source-at .result } in
-    let there : a .from .0 + n ≡ a .to .0 = omega (arith, d .pre .2) in
+    let there : a .from .0 + n ≡ a .to .0 = omega (arith, d .pre .1) in
     let h = c .before .before .before .strides .result in
     let t = c .before .singles .result in
-    let first : Moves v key (a .from .0) (n / s * s) start h = subst (λ (x : ℕ). Moves v key (a .from .0) (n / s * x) start h) (sym e) (c .before .before .before .strides .ensures key (d .pre .1)) in
+    let first : Moves v key (a .from .0) (n / s * s) start h = subst (λ (x : ℕ). Moves v key (a .from .0) (n / s * x) start h) (sym e) (c .before .before .before .strides .ensures) in
     let rest : Moves v key (a .from .0 + n - n % s) (n % s) h t = subst (λ (x : ℕ). Moves v key (x - n % s) (n % s) h t) (sym there) (c .before .singles .ensures key) in
     in-parts v key s n start h t (a .from .0) first rest (c .before .before .before .before .source-at .ensures) .0
 
@@ -94,12 +91,11 @@ run-of-spec =
     cast-first
     cast-count
     sub-count
+    rem-rest
     source-at-requires
     div-strides
     strides-requires
     cast-singles
-    rem-singles
     sub-singles
-    rem-singles-2
     singles-requires
     returns)

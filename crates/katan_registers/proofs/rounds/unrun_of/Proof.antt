@@ -31,11 +31,11 @@ cast-count c = search needs
 sub-count : tie.Need-sub-count
 sub-count c = search needs
 
+rem-left : tie.Need-rem-left
+rem-left c = rw (c .before .before .stride .ensures) (strides (c .before .before .before .args .variant) .0)
+
 source-at-requires : tie.Need-source-at-requires
 source-at-requires c κs = search needs
-
-rem-unstrides : tie.Need-rem-unstrides
-rem-unstrides c = rw (c .before .before .before .stride .ensures) (strides (c .before .before .before .before .args .variant) .0)
 
 add-unstrides : tie.Need-add-unstrides
 add-unstrides c =
@@ -43,7 +43,7 @@ add-unstrides c =
     let v = d .args .variant in
     let e : c .before .before .before .stride .result ≡ strideOf (rowOf v) = c .before .before .before .stride .ensures in
     let n = d .args .from .0 - d .args .to .0 in
-    record { fits = omega (arith, div-add-mod' n (c .before .before .before .stride .result), d .pre .2, d .pre .3) }
+    record { fits = omega (arith, div-add-mod' n (c .before .before .before .stride .result), d .pre .1, d .pre .2) }
 
 div-unstrides : tie.Need-div-unstrides
 div-unstrides c = rw (c .before .before .before .stride .ensures) (strides (c .before .before .before .before .args .variant) .0)
@@ -54,10 +54,7 @@ unstrides-requires c κs =
     let v = d .args .variant in
     let e : c .before .before .before .stride .result ≡ strideOf (rowOf v) = c .before .before .before .stride .ensures in
     let n = d .args .from .0 - d .args .to .0 in
-    (rw e (omega (arith, div-add-mod' n (strideOf (rowOf v)), d .pre .2, d .pre .3)), d .pre .0)
-
-rem-unsingles : tie.Need-rem-unsingles
-rem-unsingles c = rw (c .before .before .before .before .stride .ensures) (strides (c .before .before .before .before .before .args .variant) .0)
+    (rw e (omega (arith, div-add-mod' n (strideOf (rowOf v)), d .pre .1, d .pre .2)), d .pre .0)
 
 unsingles-requires : tie.Need-unsingles-requires
 unsingles-requires c κs =
@@ -65,7 +62,7 @@ unsingles-requires c κs =
     let v = d .args .variant in
     let e : c .before .before .before .before .stride .result ≡ strideOf (rowOf v) = c .before .before .before .before .stride .ensures in
     let n = d .args .from .0 - d .args .to .0 in
-    (omega (arith, div-add-mod' n (c .before .before .before .before .stride .result), d .pre .2, d .pre .3), d .pre .0)
+    (omega (arith, div-add-mod' n (c .before .before .before .before .stride .result), d .pre .1, d .pre .2), d .pre .0)
 
 returns : tie.Need-returns
 returns c =
@@ -77,11 +74,11 @@ returns c =
     let key = keyNumber (a .key) in
     let s = c .before .before .before .before .before .before .stride .result in
     let start : Running = record { registers = a .s; source = c .before .before .before .source-at .result } in
-    let there : a .from .0 ≡ a .to .0 + n = omega (arith, d .pre .2) in
+    let there : a .from .0 ≡ a .to .0 + n = omega (arith, d .pre .1) in
     let h = c .before .before .unstrides .result in
     let t = c .before .unsingles .result in
     let first : MovesBack v key (a .to .0 + n % s) (n / s * s) start h
-    = subst (λ (x : ℕ). MovesBack v key (a .to .0 + n % s) (n / s * x) start h) (sym e) (c .before .before .unstrides .ensures key (d .pre .1)) in
+    = subst (λ (x : ℕ). MovesBack v key (a .to .0 + n % s) (n / s * x) start h) (sym e) (c .before .before .unstrides .ensures) in
     in-parts-back v key s n start h t (a .to .0) first (c .before .unsingles .ensures key) (c .before .before .before .source-at .ensures ∙ ap (sourceAt v key) there) .0
 
 pub unrun-of-spec : {M : Type 1} → statement M
@@ -92,11 +89,10 @@ unrun-of-spec =
     cast-last
     cast-count
     sub-count
+    rem-left
     source-at-requires
-    rem-unstrides
     add-unstrides
     div-unstrides
     unstrides-requires
-    rem-unsingles
     unsingles-requires
     returns)

@@ -3,10 +3,10 @@ use mathlib.Core.Bool.{true, false}
 use Prim.Native.Nat.{ℕ}
 use native.Mathlib.Omega.{arith}
 use borrow.Author.Needs.{needs}
-use Rattle.katan_registers.proofs.picks_from.Statement.{statement}
-use Rattle.katan_registers.proofs.picks_from.Tie as tie
-use Rattle.katan_registers.proofs.picks_from.Reads as reads
-use Rattle.katan_registers.proofs.picks_from.Lts as lts
+use Rattle.katan_registers.proofs.rounds.picks_from.Statement.{statement}
+use Rattle.katan_registers.proofs.rounds.picks_from.Tie as tie
+use Rattle.katan_registers.proofs.rounds.picks_from.Reads as reads
+use Rattle.katan_registers.proofs.rounds.picks_from.Lts as lts
 use Rattle.katan_keys.proofs.key_bits.Reads as key-bits-reads
 use Rattle.katan_variants.proofs.is_katan.Reads as is-katan-reads
 
