@@ -10,7 +10,8 @@ use borrow.Author.Tests.{ltb-false, ltb-true, leb-true, lt-ltb, le-ltb, le-leb}
 use lib.Dec.{leb, ltb}
 use lib.ListN.{getD, List·getD-eq-default}
 use Rattle.katan.specs.Bit.{pick}
-use Rattle.katan.specs.Variant.{row32, row48, row64, rows, rowOf, strideOf}
+use Rattle.katan.specs.Variant.{row32, row48, row64, rows, rowOf}
+use Rattle.katan.specs.Stride.{strideOf}
 use Rattle.katan.specs.Checks.{numberOf, value, refused, variantCheck}
 use Rattle.katan.specs.Rows.{rowOutcome, rowAnswer}
 use Rattle.katan.specs.declared.Row.{Row}

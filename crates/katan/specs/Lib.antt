@@ -8,5 +8,6 @@ pub mod Machine
 pub mod Checks
 pub mod Lent
 pub mod Rows
+pub mod Stride
 pub mod inner
 pub mod Cases

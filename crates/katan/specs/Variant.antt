@@ -1,6 +1,6 @@
 -- The variants' table (document 01, "Clock and round").
 -- Assumes nothing.
-use Prim.Native.Nat.{ℕ, _+_, _-_, _/_}
+use Prim.Native.Nat.{ℕ, _-_}
 use mathlib.Core.Bool.{Bool}
 use mathlib.Core.List.{List, [], _∷_}
 use lib.Dec.{leb}
@@ -25,11 +25,6 @@ rowOf v = getD rows (v - 1) row32
 
 abbrev pub widthOf : ℕ → ℕ
 widthOf v = rowOf v .n
-
--- the rounds that are worked at once: their clocks are no more than the lowest tap of fa and one, so that each clock finds at its taps
--- bits that were there before the first
-abbrev pub strideOf : Row → ℕ
-strideOf v = (v .x5 + 1) / v .clocks
 
 -- of the variants 1 to 6, the first three are KATAN and the others KTANTAN
 abbrev pub lastKatan : ℕ

@@ -2,7 +2,7 @@
 -- Assumes nothing.
 use mathlib.Core.Path.{_≡_, sym, ap, ap₂, subst, _∙_}
 use Prim.Native.Nat.{ℕ, _+_, _-_, _*_, _/_, _%_, _^_, _<_, _≤_}
-use native.Mathlib.Nat.{mod-lt, add-zero, lt-of-lt-of-le, le-trans, mul-le-mul-right, one-mul}
+use native.Mathlib.Nat.{mod-lt, add-zero, lt-of-lt-of-le, mul-le-mul-right, one-mul}
 use native.Mathlib.Omega.{arith}
 use lib.Pow.{pow-pos, pow-mono, high, low, mod-pow-add, mod-mod-pow, shl-exact, shl-lt, shr-lt}
 use Rattle.katan.proofs.Bits.{one-shifted}

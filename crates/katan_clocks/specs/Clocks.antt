@@ -1,8 +1,7 @@
 -- Clocks whose inputs stand in words: IR, ka and kb of the clocks one beside the other, the first clock's highest.
 -- Assumes nothing.
-use Prim.Native.Nat.{ℕ, zero, suc, _*_, _/_, _%_}
+use Prim.Native.Nat.{ℕ, zero, suc, _/_, _%_}
 use Rattle.katan.specs.Clock.{clock, unclock}
-use Rattle.katan.specs.Variant.{strideOf}
 use Rattle.katan.specs.declared.Row.{Row}
 use Rattle.katan.specs.declared.Registers.{Registers}
 use Rattle.katan.specs.declared.RoundInput.{RoundInput}
@@ -24,7 +23,3 @@ clocksBy v (suc c) w s = clock v (lowest w) (clocksBy v c (earlier w) s)
 unfoldable pub unclocksBy : Row → ℕ → RoundInput → Registers → Registers
 unclocksBy v zero w s = s
 unclocksBy v (suc c) w s = unclocksBy v c (earlier w) (unclock v (lowest w) s)
-
--- the clocks of the rounds that are worked at once
-abbrev pub strideClocks : Row → ℕ
-strideClocks v = strideOf v * v .clocks

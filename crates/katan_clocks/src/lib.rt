@@ -7,7 +7,8 @@ ghost use Rattle.katan.specs.Clock.{fa as faOf, fb as fbOf, faRest, fbRest, rou
 ghost use Rattle.katan.specs.Sizes.{wordBits};
 ghost use Rattle.katan.specs.Variant.{row32, row48, row64, rowOf};
 ghost use Rattle.katan.specs.inner.Within.{Sound};
-ghost use Rattle.katan_clocks.specs.Clocks.{lowest, clocksBy, unclocksBy, strideClocks};
+ghost use Rattle.katan_clocks.specs.Clocks.{lowest, clocksBy, unclocksBy};
+ghost use Rattle.katan.specs.Stride.{strideClocks};
 ghost use Rattle.katan_clocks.specs.inner.Words.{tap as tapOf, enter as enterOf, restore as restoreOf, without as withoutOf, inEach};
 use katan::Registers;
 use katan::RoundInput;

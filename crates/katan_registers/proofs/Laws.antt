@@ -11,7 +11,8 @@ use lib.ListN.{getD}
 use lib.Pow.{pow-pos, pow-mono, shl-exact}
 use Rattle.katan.specs.Bit.{bit, pick, tabulate}
 use Rattle.katan.specs.Counter.{counter, irOf, rounds}
-use Rattle.katan.specs.Variant.{rowOf, strideOf, isKatan, lastKatan}
+use Rattle.katan.specs.Variant.{rowOf, isKatan, lastKatan}
+use Rattle.katan.specs.Stride.{strideOf, strideClocks}
 use Rattle.katan.specs.Key.{keyLength, keyBits, keyBitNumber, k}
 use Rattle.katan.specs.Clock.{round, unround, run, unrun, registers, inputOf}
 use Rattle.katan.specs.inner.Within.{Sound, Bits, RegistersFit}
@@ -26,7 +27,7 @@ use Rattle.katan.proofs.Undo.{run-fits, unrun-fits, run-add, unrun-add}
 use Rattle.katan.proofs.Positions.{registers-fit}
 use Rattle.katan_keys.specs.Window.{windowNumber, longestStep, windowAt, ahead, behind, sourceAt, nextSource, previousSource}
 use Rattle.katan_keys.proofs.Running.{running-window}
-use Rattle.katan_clocks.specs.Clocks.{lowest, clocksBy, unclocksBy, strideClocks}
+use Rattle.katan_clocks.specs.Clocks.{lowest, clocksBy, unclocksBy}
 use Rattle.katan_clocks.specs.inner.Words.{beside, wordsOf}
 use Rattle.katan_clocks.proofs.Rounds.{rounds-by-words, unrounds-by-words}
 use Rattle.katan_registers.specs.declared.rounds.Running.{Running}

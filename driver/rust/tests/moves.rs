@@ -20,6 +20,9 @@ use katan_model::{bench as records, registers_at, trace, Random, Variant, ROUNDS
 /// Moves from each of the 255 positions to each further on. There are as many back.
 const PAIRS: u32 = 255 * 254 / 2;
 
+/// How often each pair is moved, each time with other keys: a wrong key bit shows with half of them only.
+const SETS: u32 = 4;
+
 /// A way to move.
 struct Way {
     /// The record, made from number, mask and count.
@@ -151,7 +154,7 @@ impl Start<'_> {
 fn whole_moves() {
     let mut random = generator("whole_moves");
     let mut moves = [0; 2];
-    for variant in Variant::ALL {
+    for variant in (0..SETS).flat_map(|_| Variant::ALL) {
         let lanes: Vec<Lane> = (0..=ROUNDS)
             .map(|position| Lane::random(&mut random, variant, position))
             .collect();
@@ -171,5 +174,5 @@ fn whole_moves() {
         }
     }
     println!("whole_moves: forward and back: {moves:?}");
-    assert_eq!(moves, [6 * PAIRS; 2]);
+    assert_eq!(moves, [SETS * 6 * PAIRS; 2]);
 }

@@ -4,11 +4,6 @@ use mathlib.Core.Path.{_∙_}
 use borrow.Author.Needs.{needs}
 use Rattle.katan_clocks.proofs.at_once.Statement.{statement}
 use Rattle.katan_clocks.proofs.at_once.Tie as tie
-use Rattle.katan_clocks.proofs.at_once.Reads as reads
-use Rattle.katan_clocks.proofs.at_once.Lts as lts
-use Rattle.katan_clocks.proofs.enter.Reads as enter-reads
-use Rattle.katan_clocks.proofs.fa.Reads as fa-reads
-use Rattle.katan_clocks.proofs.fb.Reads as fb-reads
 
 fa-requires : tie.Need-fa-requires
 fa-requires c κs = search needs

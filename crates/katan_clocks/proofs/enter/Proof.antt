@@ -4,8 +4,6 @@ use Rattle.katan_clocks.proofs.Shifts.{sum-fits, entered}
 use borrow.Author.Needs.{needs}
 use Rattle.katan_clocks.proofs.enter.Statement.{statement}
 use Rattle.katan_clocks.proofs.enter.Tie as tie
-use Rattle.katan_clocks.proofs.enter.Reads as reads
-use Rattle.katan_clocks.proofs.enter.Lts as lts
 
 shl-result : tie.Need-shl-result
 shl-result c = search needs

@@ -3,8 +3,6 @@ use Rattle.katan_clocks.proofs.Shifts.{some-ones, bit-in-each}
 use borrow.Author.Needs.{needs}
 use Rattle.katan_clocks.proofs.in_each.Statement.{statement}
 use Rattle.katan_clocks.proofs.in_each.Tie as tie
-use Rattle.katan_clocks.proofs.in_each.Reads as reads
-use Rattle.katan_clocks.proofs.in_each.Lts as lts
 
 shl-all : tie.Need-shl-all
 shl-all c = search needs

@@ -5,8 +5,6 @@ use Rattle.katan_clocks.proofs.Shifts.{restored-fits, restored}
 use borrow.Author.Needs.{needs}
 use Rattle.katan_clocks.proofs.restore.Statement.{statement}
 use Rattle.katan_clocks.proofs.restore.Tie as tie
-use Rattle.katan_clocks.proofs.restore.Reads as reads
-use Rattle.katan_clocks.proofs.restore.Lts as lts
 
 shl-result : tie.Need-shl-result
 shl-result c = search needs

@@ -5,13 +5,6 @@ use Rattle.katan_clocks.proofs.Steps.{can-go, one-round}
 use borrow.Author.Needs.{needs}
 use Rattle.katan_clocks.proofs.round.Statement.{statement}
 use Rattle.katan_clocks.proofs.round.Tie as tie
-use Rattle.katan_clocks.proofs.round.Reads as reads
-use Rattle.katan_clocks.proofs.round.Lts as lts
-use Rattle.katan_clocks.proofs.at_once.Reads as at-once-reads
-use Rattle.katan_clocks.proofs.in_each.Reads as in-each-reads
-use Rattle.katan_variants.proofs.row_32.Reads as row-32-reads
-use Rattle.katan_variants.proofs.row_48.Reads as row-48-reads
-use Rattle.katan_variants.proofs.row_64.Reads as row-64-reads
 
 row-48-requires : tie.Need-row-48-requires
 row-48-requires c κs = search needs

@@ -6,10 +6,6 @@ use Rattle.katan_clocks.proofs.Steps.{can-go}
 use borrow.Author.Needs.{needs}
 use Rattle.katan_clocks.proofs.rounds_48.Statement.{statement}
 use Rattle.katan_clocks.proofs.rounds_48.Tie as tie
-use Rattle.katan_clocks.proofs.rounds_48.Reads as reads
-use Rattle.katan_clocks.proofs.rounds_48.Lts as lts
-use Rattle.katan_clocks.proofs.at_once.Reads as at-once-reads
-use Rattle.katan_variants.proofs.row_48.Reads as row-48-reads
 
 row-48-requires : tie.Need-row-48-requires
 row-48-requires c κs = search needs

@@ -6,10 +6,6 @@ use Rattle.katan_clocks.proofs.Steps.{can-go}
 use borrow.Author.Needs.{needs}
 use Rattle.katan_clocks.proofs.rounds_64.Statement.{statement}
 use Rattle.katan_clocks.proofs.rounds_64.Tie as tie
-use Rattle.katan_clocks.proofs.rounds_64.Reads as reads
-use Rattle.katan_clocks.proofs.rounds_64.Lts as lts
-use Rattle.katan_clocks.proofs.at_once.Reads as at-once-reads
-use Rattle.katan_variants.proofs.row_64.Reads as row-64-reads
 
 row-64-requires : tie.Need-row-64-requires
 row-64-requires c κs = search needs

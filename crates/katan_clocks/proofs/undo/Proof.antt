@@ -4,11 +4,6 @@ use mathlib.Core.Path.{_∙_}
 use borrow.Author.Needs.{needs}
 use Rattle.katan_clocks.proofs.undo.Statement.{statement}
 use Rattle.katan_clocks.proofs.undo.Tie as tie
-use Rattle.katan_clocks.proofs.undo.Reads as reads
-use Rattle.katan_clocks.proofs.undo.Lts as lts
-use Rattle.katan_clocks.proofs.fa_rest.Reads as fa-rest-reads
-use Rattle.katan_clocks.proofs.fb_rest.Reads as fb-rest-reads
-use Rattle.katan_clocks.proofs.restore.Reads as restore-reads
 
 fa-rest-requires : tie.Need-fa-rest-requires
 fa-rest-requires c κs = search needs

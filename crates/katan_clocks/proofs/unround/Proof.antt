@@ -5,13 +5,6 @@ use Rattle.katan_clocks.proofs.Steps.{can-go-back, one-unround}
 use borrow.Author.Needs.{needs}
 use Rattle.katan_clocks.proofs.unround.Statement.{statement}
 use Rattle.katan_clocks.proofs.unround.Tie as tie
-use Rattle.katan_clocks.proofs.unround.Reads as reads
-use Rattle.katan_clocks.proofs.unround.Lts as lts
-use Rattle.katan_clocks.proofs.in_each.Reads as in-each-reads
-use Rattle.katan_clocks.proofs.undo.Reads as undo-reads
-use Rattle.katan_variants.proofs.row_32.Reads as row-32-reads
-use Rattle.katan_variants.proofs.row_48.Reads as row-48-reads
-use Rattle.katan_variants.proofs.row_64.Reads as row-64-reads
 
 row-48-requires : tie.Need-row-48-requires
 row-48-requires c κs = search needs

@@ -6,10 +6,6 @@ use Rattle.katan_clocks.proofs.Steps.{can-go-back}
 use borrow.Author.Needs.{needs}
 use Rattle.katan_clocks.proofs.unrounds_32.Statement.{statement}
 use Rattle.katan_clocks.proofs.unrounds_32.Tie as tie
-use Rattle.katan_clocks.proofs.unrounds_32.Reads as reads
-use Rattle.katan_clocks.proofs.unrounds_32.Lts as lts
-use Rattle.katan_clocks.proofs.undo.Reads as undo-reads
-use Rattle.katan_variants.proofs.row_32.Reads as row-32-reads
 
 row-32-requires : tie.Need-row-32-requires
 row-32-requires c κs = search needs

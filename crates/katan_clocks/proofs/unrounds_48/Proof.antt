@@ -4,11 +4,6 @@ use Rattle.katan_clocks.proofs.Steps.{can-go-back, undone-in-three}
 use borrow.Author.Needs.{needs}
 use Rattle.katan_clocks.proofs.unrounds_48.Statement.{statement}
 use Rattle.katan_clocks.proofs.unrounds_48.Tie as tie
-use Rattle.katan_clocks.proofs.unrounds_48.Reads as reads
-use Rattle.katan_clocks.proofs.unrounds_48.Lts as lts
-use Rattle.katan_clocks.proofs.undo.Reads as undo-reads
-use Rattle.katan_clocks.proofs.without.Reads as without-reads
-use Rattle.katan_variants.proofs.row_48.Reads as row-48-reads
 
 row-48-requires : tie.Need-row-48-requires
 row-48-requires c κs = search needs

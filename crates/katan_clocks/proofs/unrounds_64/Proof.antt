@@ -4,11 +4,6 @@ use Rattle.katan_clocks.proofs.Steps.{can-go-back, undone-in-three}
 use borrow.Author.Needs.{needs}
 use Rattle.katan_clocks.proofs.unrounds_64.Statement.{statement}
 use Rattle.katan_clocks.proofs.unrounds_64.Tie as tie
-use Rattle.katan_clocks.proofs.unrounds_64.Reads as reads
-use Rattle.katan_clocks.proofs.unrounds_64.Lts as lts
-use Rattle.katan_clocks.proofs.undo.Reads as undo-reads
-use Rattle.katan_clocks.proofs.without.Reads as without-reads
-use Rattle.katan_variants.proofs.row_64.Reads as row-64-reads
 
 row-64-requires : tie.Need-row-64-requires
 row-64-requires c κs = search needs

@@ -1,13 +1,10 @@
 use Prim.Native.Nat.{_*_}
-use native.Mathlib.Omega.{arith}
 use lib.Pow.{pow-pos}
 use Rattle.katan.proofs.Bits.{one-shifted}
 use Rattle.katan_keys.proofs.InWords.{behind-words}
 use borrow.Author.Needs.{needs}
 use Rattle.katan_keys.proofs.behind.Statement.{statement}
 use Rattle.katan_keys.proofs.behind.Tie as tie
-use Rattle.katan_keys.proofs.behind.Reads as reads
-use Rattle.katan_keys.proofs.behind.Lts as lts
 
 mul-s : tie.Need-mul-s
 mul-s c = search needs

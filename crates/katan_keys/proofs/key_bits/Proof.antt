@@ -1,7 +1,7 @@
 -- `katan_keys::key_bits` meets its contract. The loop's invariant: the first i bits are there.
 -- Assumes nothing.
 use mathlib.Core.Path.{_≡_, ap, _∙_}
-use Prim.Native.Nat.{ℕ, _-_, _≤_}
+use Prim.Native.Nat.{_-_, _≤_}
 use native.Mathlib.Omega.{arith}
 use borrow.Author.Needs.{needs}
 use lib.ListN.{length, length-set}
@@ -12,10 +12,6 @@ use Rattle.katan.proofs.Fill.{filled, full}
 use Rattle.katan_keys.specs.Window.{windowNumber}
 use Rattle.katan_keys.proofs.key_bits.Statement.{statement}
 use Rattle.katan_keys.proofs.key_bits.Tie as tie
-use Rattle.katan_keys.proofs.key_bits.Reads as reads
-use Rattle.katan_keys.proofs.key_bits.Lts as lts
-use Rattle.katan_keys.proofs.bit_byte.Reads as bit-byte-reads
-use Rattle.katan_keys.proofs.key_words.Reads as key-words-reads
 
 abbrev Inv-loop : tie.InvT-loop
 Inv-loop words bits₀ i₀ bits i = (length bits ≡ keyLength) × (i ≤ keyLength) × Entries (bit (windowNumber words)) i bits

@@ -3,10 +3,6 @@ use Rattle.katan_keys.proofs.Sources.{of-katan, of-ktantan}
 use borrow.Author.Needs.{needs}
 use Rattle.katan_keys.proofs.previous_source.Statement.{statement}
 use Rattle.katan_keys.proofs.previous_source.Tie as tie
-use Rattle.katan_keys.proofs.previous_source.Reads as reads
-use Rattle.katan_keys.proofs.previous_source.Lts as lts
-use Rattle.katan_keys.proofs.behind.Reads as behind-reads
-use Rattle.katan_variants.proofs.is_katan.Reads as is-katan-reads
 
 is-katan-requires : tie.Need-is-katan-requires
 is-katan-requires c κs = search needs

@@ -7,11 +7,6 @@ use Rattle.katan_keys.proofs.Sources.{of-katan, of-ktantan}
 use borrow.Author.Needs.{needs}
 use Rattle.katan_keys.proofs.source_at.Statement.{statement}
 use Rattle.katan_keys.proofs.source_at.Tie as tie
-use Rattle.katan_keys.proofs.source_at.Reads as reads
-use Rattle.katan_keys.proofs.source_at.Lts as lts
-use Rattle.katan_keys.proofs.key_words.Reads as key-words-reads
-use Rattle.katan_keys.proofs.steps.Reads as steps-reads
-use Rattle.katan_variants.proofs.is_katan.Reads as is-katan-reads
 
 key-words-requires : tie.Need-key-words-requires
 key-words-requires c κs = search needs

@@ -9,11 +9,6 @@ use Rattle.katan.proofs.Variants.{row-found, row-refused}
 use borrow.Author.Needs.{needs}
 use Rattle.katan_registers.proofs.registers_at.Statement.{statement}
 use Rattle.katan_registers.proofs.registers_at.Tie as tie
-use Rattle.katan_registers.proofs.registers_at.Reads as reads
-use Rattle.katan_registers.proofs.registers_at.Lts as lts
-use Rattle.katan_registers.proofs.registers_between.Reads as registers-between-reads
-use Rattle.katan_numbers.proofs.too_wide.Reads as too-wide-reads
-use Rattle.katan_variants.proofs.row_of.Reads as row-of-reads
 
 row-of-requires : tie.Need-row-of-requires
 row-of-requires c κs = search needs

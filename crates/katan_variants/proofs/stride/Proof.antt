@@ -1,7 +1,7 @@
 -- `katan_variants::stride` meets its contract.
 -- Assumes nothing.
 use mathlib.Core.Path.{ap}
-use Rattle.katan.specs.Variant.{strideOf}
+use Rattle.katan.specs.Stride.{strideOf}
 use Rattle.katan.proofs.Variants.{is-row32, is-row48, is-row64}
 use Rattle.katan_variants.proofs.stride.Statement.{statement}
 use Rattle.katan_variants.proofs.stride.Tie as tie

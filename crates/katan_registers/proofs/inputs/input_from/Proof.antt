@@ -4,10 +4,6 @@ use Rattle.katan_registers.proofs.Laws.{same-input}
 use borrow.Author.Needs.{needs}
 use Rattle.katan_registers.proofs.inputs.input_from.Statement.{statement}
 use Rattle.katan_registers.proofs.inputs.input_from.Tie as tie
-use Rattle.katan_registers.proofs.inputs.input_from.Reads as reads
-use Rattle.katan_registers.proofs.inputs.input_from.Lts as lts
-use Rattle.katan_keys.proofs.bit_at.Reads as bit-at-reads
-use Rattle.katan_registers.proofs.inputs.wide.Reads as wide-reads
 
 wide-requires : tie.Need-wide-requires
 wide-requires c κs = search needs

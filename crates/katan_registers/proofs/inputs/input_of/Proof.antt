@@ -7,11 +7,6 @@ use Rattle.katan_registers.specs.inner.Tables.{inputFrom}
 use borrow.Author.Needs.{needs}
 use Rattle.katan_registers.proofs.inputs.input_of.Statement.{statement}
 use Rattle.katan_registers.proofs.inputs.input_of.Tie as tie
-use Rattle.katan_registers.proofs.inputs.input_of.Reads as reads
-use Rattle.katan_registers.proofs.inputs.input_of.Lts as lts
-use Rattle.katan_numbers.proofs.index_of.Reads as index-of-reads
-use Rattle.katan_registers.proofs.inputs.input_from.Reads as input-from-reads
-use Rattle.katan_variants.proofs.is_katan.Reads as is-katan-reads
 
 is-katan-requires : tie.Need-is-katan-requires
 is-katan-requires c κs = search needs

@@ -2,10 +2,6 @@ use Rattle.katan_registers.proofs.Laws.{same-input}
 use borrow.Author.Needs.{needs}
 use Rattle.katan_registers.proofs.inputs.inputs_3.Statement.{statement}
 use Rattle.katan_registers.proofs.inputs.inputs_3.Tie as tie
-use Rattle.katan_registers.proofs.inputs.inputs_3.Reads as reads
-use Rattle.katan_registers.proofs.inputs.inputs_3.Lts as lts
-use Rattle.katan_registers.proofs.inputs.ir_3.Reads as ir-3-reads
-use Rattle.katan_registers.proofs.inputs.key_3.Reads as key-3-reads
 
 ir-3-requires : tie.Need-ir-3-requires
 ir-3-requires c κs = search needs

@@ -2,10 +2,6 @@ use Rattle.katan_registers.proofs.Laws.{same-input}
 use borrow.Author.Needs.{needs}
 use Rattle.katan_registers.proofs.inputs.inputs_4.Statement.{statement}
 use Rattle.katan_registers.proofs.inputs.inputs_4.Tie as tie
-use Rattle.katan_registers.proofs.inputs.inputs_4.Reads as reads
-use Rattle.katan_registers.proofs.inputs.inputs_4.Lts as lts
-use Rattle.katan_registers.proofs.inputs.ir_4.Reads as ir-4-reads
-use Rattle.katan_registers.proofs.inputs.key_4.Reads as key-4-reads
 
 ir-4-requires : tie.Need-ir-4-requires
 ir-4-requires c κs = search needs

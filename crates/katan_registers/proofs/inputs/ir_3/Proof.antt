@@ -1,17 +1,11 @@
-use mathlib.Core.Path.{_≡_, sym, ap, _∙_}
-use Prim.Native.Nat.{ℕ, _+_, _-_, _*_}
-use native.Mathlib.Nat.{add-zero}
+use mathlib.Core.Path.{ap, _∙_}
+use Prim.Native.Nat.{ℕ, _-_}
 use lib.ListN.{getD}
 use Rattle.katan.specs.Bit.{bit}
 use Rattle.katan_registers.proofs.Laws.{three-beside}
 use borrow.Author.Needs.{needs}
 use Rattle.katan_registers.proofs.inputs.ir_3.Statement.{statement}
 use Rattle.katan_registers.proofs.inputs.ir_3.Tie as tie
-use Rattle.katan_registers.proofs.inputs.ir_3.Reads as reads
-use Rattle.katan_registers.proofs.inputs.ir_3.Lts as lts
-use Rattle.katan_numbers.proofs.bit_of.Reads as bit-of-reads
-use Rattle.katan_registers.proofs.inputs.three.Reads as three-reads
-use Rattle.katan_registers.proofs.inputs.wide.Reads as wide-reads
 
 element-copy-out-wide : tie.Need-element-copy-out-wide
 element-copy-out-wide c = search needs

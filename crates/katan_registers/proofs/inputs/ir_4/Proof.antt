@@ -5,9 +5,6 @@ use Rattle.katan_registers.proofs.Laws.{four-irs}
 use borrow.Author.Needs.{needs}
 use Rattle.katan_registers.proofs.inputs.ir_4.Statement.{statement}
 use Rattle.katan_registers.proofs.inputs.ir_4.Tie as tie
-use Rattle.katan_registers.proofs.inputs.ir_4.Reads as reads
-use Rattle.katan_registers.proofs.inputs.ir_4.Lts as lts
-use Rattle.katan_registers.proofs.inputs.wide.Reads as wide-reads
 
 element-copy-out-wide : tie.Need-element-copy-out-wide
 element-copy-out-wide c = search needs

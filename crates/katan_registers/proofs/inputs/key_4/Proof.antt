@@ -4,11 +4,6 @@ use Rattle.katan_registers.proofs.Laws.{of-window, of-table}
 use borrow.Author.Needs.{needs}
 use Rattle.katan_registers.proofs.inputs.key_4.Statement.{statement}
 use Rattle.katan_registers.proofs.inputs.key_4.Tie as tie
-use Rattle.katan_registers.proofs.inputs.key_4.Reads as reads
-use Rattle.katan_registers.proofs.inputs.key_4.Lts as lts
-use Rattle.katan_registers.proofs.inputs.picked_4.Reads as picked-4-reads
-use Rattle.katan_registers.proofs.inputs.window_4.Reads as window-4-reads
-use Rattle.katan_variants.proofs.is_katan.Reads as is-katan-reads
 
 is-katan-requires : tie.Need-is-katan-requires
 is-katan-requires c κs = search needs

@@ -1,15 +1,9 @@
-use mathlib.Core.Path.{_≡_, sym, ap, _∙_}
-use Prim.Native.Nat.{ℕ, _+_, _-_, _*_}
-use native.Mathlib.Nat.{add-zero}
+use mathlib.Core.Path.{ap, _∙_}
+use Prim.Native.Nat.{ℕ, _-_}
 use lib.ListN.{getD}
-use Rattle.katan.specs.Bit.{bit}
 use borrow.Author.Needs.{needs}
 use Rattle.katan_registers.proofs.inputs.picked.Statement.{statement}
 use Rattle.katan_registers.proofs.inputs.picked.Tie as tie
-use Rattle.katan_registers.proofs.inputs.picked.Reads as reads
-use Rattle.katan_registers.proofs.inputs.picked.Lts as lts
-use Rattle.katan_numbers.proofs.index_of.Reads as index-of-reads
-use Rattle.katan_registers.proofs.inputs.wide.Reads as wide-reads
 
 element-copy-out-index-of : tie.Need-element-copy-out-index-of
 element-copy-out-index-of c = search needs

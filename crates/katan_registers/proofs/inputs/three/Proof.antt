@@ -2,8 +2,6 @@ use Rattle.katan_registers.proofs.Laws.{two-fit, three-fit, ones, fille
 use borrow.Author.Needs.{needs}
 use Rattle.katan_registers.proofs.inputs.three.Statement.{statement}
 use Rattle.katan_registers.proofs.inputs.three.Tie as tie
-use Rattle.katan_registers.proofs.inputs.three.Reads as reads
-use Rattle.katan_registers.proofs.inputs.three.Lts as lts
 
 shl-result : tie.Need-shl-result
 shl-result c = search needs

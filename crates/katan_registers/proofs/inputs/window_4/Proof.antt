@@ -1,17 +1,12 @@
-use mathlib.Core.Path.{_≡_, sym, ap, _∙_}
-use Prim.Native.Nat.{ℕ, _+_, _-_, _*_}
+use mathlib.Core.Path.{sym, ap, _∙_}
+use Prim.Native.Nat.{_+_, _-_, _*_}
 use native.Mathlib.Nat.{add-zero}
-use lib.ListN.{getD}
 use Rattle.katan.specs.Bit.{bit}
 use Rattle.katan_keys.specs.Window.{windowNumber}
 use Rattle.katan_registers.proofs.Laws.{four-beside}
 use borrow.Author.Needs.{needs}
 use Rattle.katan_registers.proofs.inputs.window_4.Statement.{statement}
 use Rattle.katan_registers.proofs.inputs.window_4.Tie as tie
-use Rattle.katan_registers.proofs.inputs.window_4.Reads as reads
-use Rattle.katan_registers.proofs.inputs.window_4.Lts as lts
-use Rattle.katan_keys.proofs.bit_at.Reads as bit-at-reads
-use Rattle.katan_registers.proofs.inputs.four.Reads as four-reads
 
 bit-at-requires : tie.Need-bit-at-requires
 bit-at-requires c κs = search needs

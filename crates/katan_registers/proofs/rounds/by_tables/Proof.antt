@@ -11,12 +11,6 @@ use Rattle.katan.proofs.Positions.{block-in-word, at-later, at-earlier}
 use Rattle.katan_registers.proofs.Laws.{loaded-fits, ran-fits, unran-fits}
 use Rattle.katan_registers.proofs.rounds.by_tables.Statement.{statement}
 use Rattle.katan_registers.proofs.rounds.by_tables.Tie as tie
-use Rattle.katan_registers.proofs.rounds.by_tables.Reads as reads
-use Rattle.katan_registers.proofs.rounds.by_tables.Lts as lts
-use Rattle.katan_numbers.proofs.block_of.Reads as block-of-reads
-use Rattle.katan_numbers.proofs.registers_of.Reads as registers-of-reads
-use Rattle.katan_registers.proofs.rounds.run_of.Reads as run-of-reads
-use Rattle.katan_registers.proofs.rounds.unrun_of.Reads as unrun-of-reads
 
 registers-of-requires : tie.Need-registers-of-requires
 registers-of-requires c κs = search needs

@@ -5,10 +5,6 @@ use native.Mathlib.Omega.{arith}
 use borrow.Author.Needs.{needs}
 use Rattle.katan_registers.proofs.rounds.picks_from.Statement.{statement}
 use Rattle.katan_registers.proofs.rounds.picks_from.Tie as tie
-use Rattle.katan_registers.proofs.rounds.picks_from.Reads as reads
-use Rattle.katan_registers.proofs.rounds.picks_from.Lts as lts
-use Rattle.katan_keys.proofs.key_bits.Reads as key-bits-reads
-use Rattle.katan_variants.proofs.is_katan.Reads as is-katan-reads
 
 is-katan-requires : tie.Need-is-katan-requires
 is-katan-requires c κs = search needs

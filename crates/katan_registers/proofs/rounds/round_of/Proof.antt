@@ -2,11 +2,6 @@ use Rattle.katan_registers.proofs.Laws.{round-moves}
 use borrow.Author.Needs.{needs}
 use Rattle.katan_registers.proofs.rounds.round_of.Statement.{statement}
 use Rattle.katan_registers.proofs.rounds.round_of.Tie as tie
-use Rattle.katan_registers.proofs.rounds.round_of.Reads as reads
-use Rattle.katan_registers.proofs.rounds.round_of.Lts as lts
-use Rattle.katan_clocks.proofs.round.Reads as round-reads
-use Rattle.katan_keys.proofs.next_source.Reads as next-source-reads
-use Rattle.katan_registers.proofs.inputs.input_of.Reads as input-of-reads
 
 input-of-requires : tie.Need-input-of-requires
 input-of-requires c κs = search needs

@@ -1,15 +1,10 @@
-use mathlib.Core.Path.{_≡_, sym, ap, subst, _∙_}
-use Prim.Native.Nat.{ℕ, _+_, _-_, _*_, _≤_, _<_}
-use native.Mathlib.Nat.{add-zero, zero-mul, sub-self}
+use mathlib.Core.Path.{_≡_, subst}
+use Prim.Native.Nat.{ℕ, _-_, _≤_}
 use native.Mathlib.Omega.{arith}
-use Rattle.katan.specs.Variant.{rowOf, strideOf}
-use Rattle.katan_registers.specs.inner.Tables.{KeyBits, Moves, MovesBack}
+use Rattle.katan_registers.specs.inner.Tables.{Moves}
 use Rattle.katan_registers.proofs.Laws.{moves-none, moves-more}
 use Rattle.katan_registers.proofs.rounds.singles.Statement.{statement}
 use Rattle.katan_registers.proofs.rounds.singles.Tie as tie
-use Rattle.katan_registers.proofs.rounds.singles.Reads as reads
-use Rattle.katan_registers.proofs.rounds.singles.Lts as lts
-use Rattle.katan_registers.proofs.rounds.round_of.Reads as round-of-reads
 
 abbrev Inv-loop : tie.InvT-loop
 Inv-loop variant counters numbers r n t₀ i₀ t i =

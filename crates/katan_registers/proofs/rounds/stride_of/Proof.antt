@@ -2,21 +2,14 @@ use mathlib.Core.Path.{sym, subst}
 use Prim.Native.Nat.{_+_, _≤_}
 use native.Mathlib.Omega.{arith}
 use Rattle.katan.specs.Counter.{rounds}
-use Rattle.katan.specs.Variant.{row32, row48, row64, strideOf}
+use Rattle.katan.specs.Variant.{row32, row48, row64}
+use Rattle.katan.specs.Stride.{strideOf}
 use Rattle.katan.specs.declared.Row.{Row}
 use Rattle.katan.proofs.Variants.{is-row32, is-row48, is-row64}
 use Rattle.katan_registers.proofs.Laws.{named, stride-moves}
 use borrow.Author.Needs.{needs}
 use Rattle.katan_registers.proofs.rounds.stride_of.Statement.{statement}
 use Rattle.katan_registers.proofs.rounds.stride_of.Tie as tie
-use Rattle.katan_registers.proofs.rounds.stride_of.Reads as reads
-use Rattle.katan_registers.proofs.rounds.stride_of.Lts as lts
-use Rattle.katan_clocks.proofs.rounds_32.Reads as rounds-32-reads
-use Rattle.katan_clocks.proofs.rounds_48.Reads as rounds-48-reads
-use Rattle.katan_clocks.proofs.rounds_64.Reads as rounds-64-reads
-use Rattle.katan_keys.proofs.source_ahead.Reads as source-ahead-reads
-use Rattle.katan_registers.proofs.inputs.inputs_3.Reads as inputs-3-reads
-use Rattle.katan_registers.proofs.inputs.inputs_4.Reads as inputs-4-reads
 
 inputs-3-requires : tie.Need-inputs-3-requires
 inputs-3-requires c κs =

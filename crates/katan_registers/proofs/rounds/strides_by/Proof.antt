@@ -1,17 +1,14 @@
 use borrow.Author.Needs.{needs}
-use mathlib.Core.Path.{_≡_, sym, ap, subst, _∙_}
-use Prim.Native.Nat.{ℕ, _+_, _-_, _*_, _≤_, _<_}
-use native.Mathlib.Nat.{add-zero, zero-mul, sub-self}
+use mathlib.Core.Path.{_≡_, sym, subst}
+use Prim.Native.Nat.{ℕ, _+_, _-_, _*_, _≤_}
+use native.Mathlib.Nat.{zero-mul}
 use native.Mathlib.Omega.{arith}
-use Rattle.katan.specs.Variant.{rowOf, strideOf}
-use Rattle.katan_registers.specs.inner.Tables.{KeyBits, Moves, MovesBack}
+use Rattle.katan.specs.Variant.{rowOf}
+use Rattle.katan.specs.Stride.{strideOf}
+use Rattle.katan_registers.specs.inner.Tables.{KeyBits, Moves}
 use Rattle.katan_registers.proofs.Laws.{moves-none, stride-more, within}
 use Rattle.katan_registers.proofs.rounds.strides_by.Statement.{statement}
 use Rattle.katan_registers.proofs.rounds.strides_by.Tie as tie
-use Rattle.katan_registers.proofs.rounds.strides_by.Reads as reads
-use Rattle.katan_registers.proofs.rounds.strides_by.Lts as lts
-use Rattle.katan_registers.proofs.rounds.stride_of.Reads as stride-of-reads
-use Rattle.katan_variants.proofs.stride.Reads as stride-reads
 
 abbrev Inv-loop : tie.InvT-loop
 Inv-loop variant counters numbers bits r n stride t₀ i₀ t i =

@@ -2,11 +2,6 @@ use Rattle.katan_registers.proofs.Laws.{round-moves-back}
 use borrow.Author.Needs.{needs}
 use Rattle.katan_registers.proofs.rounds.unround_of.Statement.{statement}
 use Rattle.katan_registers.proofs.rounds.unround_of.Tie as tie
-use Rattle.katan_registers.proofs.rounds.unround_of.Reads as reads
-use Rattle.katan_registers.proofs.rounds.unround_of.Lts as lts
-use Rattle.katan_clocks.proofs.unround.Reads as unround-reads
-use Rattle.katan_keys.proofs.previous_source.Reads as previous-source-reads
-use Rattle.katan_registers.proofs.inputs.input_of.Reads as input-of-reads
 
 previous-source-requires : tie.Need-previous-source-requires
 previous-source-requires c κs = search needs

@@ -1,15 +1,11 @@
-use mathlib.Core.Path.{_≡_, sym, ap, subst, _∙_}
-use Prim.Native.Nat.{ℕ, _+_, _-_, _*_, _≤_, _<_}
-use native.Mathlib.Nat.{add-zero, zero-mul, sub-self}
+use mathlib.Core.Path.{_≡_, sym, subst}
+use Prim.Native.Nat.{ℕ, _+_, _-_, _≤_}
+use native.Mathlib.Nat.{sub-self}
 use native.Mathlib.Omega.{arith}
-use Rattle.katan.specs.Variant.{rowOf, strideOf}
-use Rattle.katan_registers.specs.inner.Tables.{KeyBits, Moves, MovesBack}
+use Rattle.katan_registers.specs.inner.Tables.{MovesBack}
 use Rattle.katan_registers.proofs.Laws.{back-none, back-more}
 use Rattle.katan_registers.proofs.rounds.unsingles.Statement.{statement}
 use Rattle.katan_registers.proofs.rounds.unsingles.Tie as tie
-use Rattle.katan_registers.proofs.rounds.unsingles.Reads as reads
-use Rattle.katan_registers.proofs.rounds.unsingles.Lts as lts
-use Rattle.katan_registers.proofs.rounds.unround_of.Reads as unround-of-reads
 
 abbrev Inv-loop : tie.InvT-loop
 Inv-loop variant counters numbers r n left₀ t₀ left t =

@@ -2,21 +2,14 @@ use mathlib.Core.Path.{sym, subst}
 use Prim.Native.Nat.{_+_, _≤_}
 use native.Mathlib.Omega.{arith}
 use Rattle.katan.specs.Counter.{rounds}
-use Rattle.katan.specs.Variant.{row32, row48, row64, strideOf}
+use Rattle.katan.specs.Variant.{row32, row48, row64}
+use Rattle.katan.specs.Stride.{strideOf}
 use Rattle.katan.specs.declared.Row.{Row}
 use Rattle.katan.proofs.Variants.{is-row32, is-row48, is-row64}
 use Rattle.katan_registers.proofs.Laws.{named, stride-moves-back}
 use borrow.Author.Needs.{needs}
 use Rattle.katan_registers.proofs.rounds.unstride_of.Statement.{statement}
 use Rattle.katan_registers.proofs.rounds.unstride_of.Tie as tie
-use Rattle.katan_registers.proofs.rounds.unstride_of.Reads as reads
-use Rattle.katan_registers.proofs.rounds.unstride_of.Lts as lts
-use Rattle.katan_clocks.proofs.unrounds_32.Reads as unrounds-32-reads
-use Rattle.katan_clocks.proofs.unrounds_48.Reads as unrounds-48-reads
-use Rattle.katan_clocks.proofs.unrounds_64.Reads as unrounds-64-reads
-use Rattle.katan_keys.proofs.source_behind.Reads as source-behind-reads
-use Rattle.katan_registers.proofs.inputs.inputs_3.Reads as inputs-3-reads
-use Rattle.katan_registers.proofs.inputs.inputs_4.Reads as inputs-4-reads
 
 source-behind-requires : tie.Need-source-behind-requires
 source-behind-requires c κs = search needs

@@ -1,17 +1,14 @@
 use borrow.Author.Needs.{needs}
 use mathlib.Core.Path.{_≡_, sym, ap, subst, _∙_}
-use Prim.Native.Nat.{ℕ, _+_, _-_, _*_, _≤_, _<_}
-use native.Mathlib.Nat.{add-zero, zero-mul, sub-self}
+use Prim.Native.Nat.{ℕ, _+_, _-_, _*_, _≤_}
+use native.Mathlib.Nat.{zero-mul, sub-self}
 use native.Mathlib.Omega.{arith}
-use Rattle.katan.specs.Variant.{rowOf, strideOf}
-use Rattle.katan_registers.specs.inner.Tables.{KeyBits, Moves, MovesBack}
+use Rattle.katan.specs.Variant.{rowOf}
+use Rattle.katan.specs.Stride.{strideOf}
+use Rattle.katan_registers.specs.inner.Tables.{KeyBits, MovesBack}
 use Rattle.katan_registers.proofs.Laws.{back-none, stride-less, within}
 use Rattle.katan_registers.proofs.rounds.unstrides_by.Statement.{statement}
 use Rattle.katan_registers.proofs.rounds.unstrides_by.Tie as tie
-use Rattle.katan_registers.proofs.rounds.unstrides_by.Reads as reads
-use Rattle.katan_registers.proofs.rounds.unstrides_by.Lts as lts
-use Rattle.katan_registers.proofs.rounds.unstride_of.Reads as unstride-of-reads
-use Rattle.katan_variants.proofs.stride.Reads as stride-reads
 
 abbrev Inv-loop : tie.InvT-loop
 Inv-loop variant counters numbers bits r n stride left₀ t₀ left t =

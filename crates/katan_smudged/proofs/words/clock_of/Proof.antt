@@ -4,11 +4,6 @@ use Rattle.katan.proofs.Variants.{is-row32, is-row48, is-row64}
 use Rattle.katan_smudged.specs.inner.Words.{clockWords}
 use Rattle.katan_smudged.proofs.words.clock_of.Statement.{statement}
 use Rattle.katan_smudged.proofs.words.clock_of.Tie as tie
-use Rattle.katan_smudged.proofs.words.clock_of.Reads as reads
-use Rattle.katan_smudged.proofs.words.clock_of.Lts as lts
-use Rattle.katan_smudged.proofs.words.clock_32.Reads as clock-32-reads
-use Rattle.katan_smudged.proofs.words.clock_48.Reads as clock-48-reads
-use Rattle.katan_smudged.proofs.words.clock_64.Reads as clock-64-reads
 
 clock-48-requires : tie.Need-clock-48-requires
 clock-48-requires c κs = rw (is-row48 _ (c .match .keys1)) (c .before .pre .2)
