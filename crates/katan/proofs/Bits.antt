@@ -2,12 +2,12 @@
 -- Assumes nothing.
 use mathlib.Core.Path.{_≡_, refl, sym, ap, ap₂, subst, _∙_}
 use Prim.Native.Nat.{ℕ, zero, suc, _+_, _-_, _*_, _/_, _%_, _^_, _<_, _≤_}
-use native.Mathlib.Nat.{mod-lt, mod-eq-of-lt, zero-div, div-one, div-eq-of-lt, div-add-mod', one-mul, add-zero, add-comm, lt-of-lt-of-le, div-lt-iff-lt-mul}
+use native.Mathlib.Nat.{mul-assoc, add-mul, mod-lt, mod-eq-of-lt, zero-div, div-one, div-eq-of-lt, div-add-mod', one-mul, add-zero, add-comm, lt-of-lt-of-le, div-lt-iff-lt-mul}
 use native.Mathlib.Numerals.{add-one, one-add}
 use native.Mathlib.Omega.{arith}
 use borrow.Author.Count.{below-more}
 use lib.Arith.{bin-ind}
-use lib.Pow.{pow-pos, pow-add, pow-mono, field, mod-mod-pow, shl-exact, shr-shr, shl-shr, shr-lt, high, low}
+use lib.Pow.{pow-pos, pow-add, pow-mono, field, mod-mod-pow, shl-exact, shr-shr, shl-shr, shl-lt, shr-lt, split, high, low}
 use lib.Bits.{and-lt, xor-lt, xor-shr, xor-mod, and-shr, and-mod, and-block, or-shr, or-mod, xor-comm, xor-self, xor-zero-r}
 use lib.Dec.{lit<}
 use Rattle.katan.specs.Bit.{bit, xor, and, or, fromBits}
@@ -21,6 +21,19 @@ one-shifted w h = shl-exact {a = 1} 1 w 64 (lit< tt) (omega arith) ∙ one-mul (
 -- a register of fewer than 64 bits leaves room for a shift
 pub room : {l w : ℕ} → l < 2 ^ w → w < 64 → l < 2 ^ 63
 room {l} {w} h q = lt-of-lt-of-le h (pow-mono {i = w} {j = 63} (omega arith))
+
+-- h, shifted up by m bits: all but its low s bits leave a word
+module _ (h s m : ℕ) (word : s + m ≡ 64) where
+  pub raised : h * 2 ^ m ≡ h / 2 ^ s * 2 ^ 64 + (h % 2 ^ s) * 2 ^ m
+  raised =
+      ap (λ (y : ℕ). y * 2 ^ m) (sym (split h s))
+      ∙ add-mul _ _ (2 ^ m)
+      ∙ ap (λ (y : ℕ). y + (h % 2 ^ s) * 2 ^ m) (mul-assoc _ (2 ^ s) (2 ^ m) ∙ ap (h / 2 ^ s *_) (sym (pow-add 2 s m) ∙ ap (λ (n : ℕ). 2 ^ n) word))
+
+  pub lifted : (h * 2 ^ m) % 2 ^ 64 ≡ (h % 2 ^ s) * 2 ^ m
+  lifted =
+      let fits : (h % 2 ^ s) * 2 ^ m < 2 ^ 64 = subst (λ (n : ℕ). (h % 2 ^ s) * 2 ^ m < 2 ^ n) word (shl-lt s m (mod-lt h (pow-pos s))) in
+      ap (λ (y : ℕ). y % 2 ^ 64) raised ∙ low (h / 2 ^ s) 64 fits
 
 pub bit-lt : (x i : ℕ) → bit x i < 2
 bit-lt x i = mod-lt (x / 2 ^ i) (lit< tt)

@@ -36,26 +36,26 @@ over-half k x b h = omega (arith, over-more k x b)
 over-odd : (k x b : ℕ) → b < 2 → over (suc k) x b % 2 ≡ b
 over-odd k x b h = omega (arith, over-more k x b)
 
-abbrev inputs : (i a b : ℕ) → RoundInput
+abbrev pub inputs : (i a b : ℕ) → RoundInput
 inputs i a b = record { ir = i; ka = a; kb = b }
 
 -- inputs are equal when IR, ka and kb are
-same : {i i′ a a′ b b′ : ℕ} → i ≡ i′ → a ≡ a′ → b ≡ b′ → inputs i a b ≡ inputs i′ a′ b′
-same p q r = cc (p, q, r)
+pub same-input : {i i′ a a′ b b′ : ℕ} → i ≡ i′ → a ≡ a′ → b ≡ b′ → inputs i a b ≡ inputs i′ a′ b′
+same-input p q r = cc (p, q, r)
 
 -- the words of a round of k clocks after those of w
 abbrev then : (k : ℕ) (w u : RoundInput) → RoundInput
 then k w u = inputs (over k (w .ir) (u .ir)) (over k (w .ka) (u .ka)) (over k (w .kb) (u .kb))
 
 then-none : (w u : RoundInput) → then 0 w u ≡ w
-then-none w u = same (over-none (w .ir) (u .ir)) (over-none (w .ka) (u .ka)) (over-none (w .kb) (u .kb))
+then-none w u = same-input (over-none (w .ir) (u .ir)) (over-none (w .ka) (u .ka)) (over-none (w .kb) (u .kb))
 
 module _ (u : RoundInput) (b : Bits u) where
   then-lowest : (k : ℕ) (w : RoundInput) → lowest (then (suc k) w u) ≡ u
-  then-lowest k w = same (over-odd k (w .ir) (u .ir) (b .ir-bit)) (over-odd k (w .ka) (u .ka) (b .ka-bit)) (over-odd k (w .kb) (u .kb) (b .kb-bit))
+  then-lowest k w = same-input (over-odd k (w .ir) (u .ir) (b .ir-bit)) (over-odd k (w .ka) (u .ka) (b .ka-bit)) (over-odd k (w .kb) (u .kb) (b .kb-bit))
 
   then-earlier : (k : ℕ) (w : RoundInput) → earlier (then (suc k) w u) ≡ then k w u
-  then-earlier k w = same (over-half k (w .ir) (u .ir) (b .ir-bit)) (over-half k (w .ka) (u .ka) (b .ka-bit)) (over-half k (w .kb) (u .kb) (b .kb-bit))
+  then-earlier k w = same-input (over-half k (w .ir) (u .ir) (b .ir-bit)) (over-half k (w .ka) (u .ka) (b .ka-bit)) (over-half k (w .kb) (u .kb) (b .kb-bit))
 
   module _ (v : Row) where
     -- the clocks by w, and then k clocks with u
@@ -84,7 +84,7 @@ beside-more m f n =
     add-mul (beside m f n * 2 ^ m) (f n) (2 ^ m - 1) ∙ ap (_+ f n * (2 ^ m - 1)) (mul-right-comm (beside m f n) (2 ^ m) (2 ^ m - 1))
 
 words-more : (m : ℕ) (f : ℕ → RoundInput) (n : ℕ) → wordsOf m f (suc n) ≡ then m (wordsOf m f n) (f n)
-words-more m f n = same (beside-more m (λ j. f j .ir) n) (beside-more m (λ j. f j .ka) n) (beside-more m (λ j. f j .kb) n)
+words-more m f n = same-input (beside-more m (λ j. f j .ir) n) (beside-more m (λ j. f j .ka) n) (beside-more m (λ j. f j .kb) n)
 
 clocks-more : (m n : ℕ) → suc n * m ≡ m + n * m
 clocks-more m n = suc-mul n m ∙ add-comm (n * m) m
@@ -117,7 +117,7 @@ module _ (v : Row) (u : RoundInput) (s : Registers) where
   alone : (c : ℕ) → inEach c u ≡ then c (inputs 0 0 0) (lowest u)
   alone c =
       let e : (x : ℕ) → x ≡ 0 * 2 ^ c + x = λ x. omega (arith, zero-mul (2 ^ c)) in
-      same (e _) (e _) (e _)
+      same-input (e _) (e _) (e _)
 
   -- LAW: clocks by one round's input in each are the round
   pub one-by-words : clocksBy v (v .clocks) (inEach (v .clocks) u) s ≡ round v (lowest u) s

@@ -5,23 +5,18 @@ use Prim.Native.Nat.{ℕ, _+_, _-_, _*_, _/_, _%_, _^_, _<_, _≤_}
 use native.Mathlib.Nat.{mod-lt, add-zero, lt-of-lt-of-le, mul-le-mul-right, one-mul}
 use native.Mathlib.Omega.{arith}
 use lib.Pow.{pow-pos, pow-mono, high, low, mod-pow-add, mod-mod-pow, shl-exact, shl-lt, shr-lt}
-use Rattle.katan.proofs.Bits.{one-shifted}
-
--- b below a word shifted up by c, which loses what does not fit
-shifted-up : (l c b : ℕ) → c < 64 → b < 2 ^ c → (l * 2 ^ c + b) % 2 ^ 64 ≡ l % 2 ^ (64 - c) * 2 ^ c + b
-shifted-up l c b h q =
-    let parts : 64 ≡ (64 - c) + c = omega arith in
-    ap (λ (n : ℕ). (l * 2 ^ c + b) % 2 ^ n) parts
-    ∙ mod-pow-add (l * 2 ^ c + b) (64 - c) c
-    ∙ ap₂ (λ (x y : ℕ). x % 2 ^ (64 - c) * 2 ^ c + y) (high l c q) (low l c q)
+use Rattle.katan.proofs.Bits.{one-shifted, raised, lifted, joined-lt}
 
 module _ (l c b : ℕ) (h : c < 64) where
-  -- what enters stands below it
+  -- what enters stands below a word that is shifted up, and loses what does not fit
   sum : (l * 2 ^ c) % 2 ^ 64 + b % 2 ^ c ≡ (l * 2 ^ c + b % 2 ^ c) % 2 ^ 64
   sum =
-      let bare : (l * 2 ^ c) % 2 ^ 64 ≡ l % 2 ^ (64 - c) * 2 ^ c
-      = ap (λ (x : ℕ). x % 2 ^ 64) (sym (add-zero (l * 2 ^ c))) ∙ shifted-up l c 0 h (pow-pos c) ∙ add-zero _ in
-      ap (λ (x : ℕ). x + b % 2 ^ c) bare ∙ sym (shifted-up l c (b % 2 ^ c) h (mod-lt b (pow-pos c)))
+      let s = 64 - c in
+      let word : s + c ≡ 64 = omega arith in
+      let new : ℕ = b % 2 ^ c in
+      let fits : l % 2 ^ s * 2 ^ c + new < 2 ^ 64 = subst (λ (n : ℕ). l % 2 ^ s * 2 ^ c + new < 2 ^ n) word (joined-lt c (l % 2 ^ s) (mod-lt b (pow-pos c)) s (mod-lt l (pow-pos s))) in
+      let whole : l * 2 ^ c + new ≡ l / 2 ^ s * 2 ^ 64 + (l % 2 ^ s * 2 ^ c + new) = omega (arith, raised l s c word) in
+      ap (_+ new) (lifted l s c word) ∙ sym (ap (λ (x : ℕ). x % 2 ^ 64) whole ∙ low (l / 2 ^ s) 64 fits)
 
   pub sum-fits : (l * 2 ^ c) % 2 ^ 64 + b % ((1 * 2 ^ c) % 2 ^ 64) < 2 ^ 64
   sum-fits = rw (one-shifted c h, sum) (mod-lt (l * 2 ^ c + b % 2 ^ c) (pow-pos 64))
@@ -54,9 +49,6 @@ module _ (n c t : ℕ) (h : n < 64) (q : c ≤ n) where
 
 -- a bit in each of c places
 module _ (c : ℕ) (h : c < 64) where
-  pub all-ones : (1 * 2 ^ c) % 2 ^ 64 - 1 ≡ 2 ^ c - 1
-  all-ones = ap (λ (x : ℕ). x - 1) (one-shifted c h)
-
   pub some-ones : 1 ≤ (1 * 2 ^ c) % 2 ^ 64
   some-ones = rw (one-shifted c h) (pow-pos c)
 

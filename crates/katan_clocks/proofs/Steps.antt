@@ -35,6 +35,10 @@ module _ (v : ℕ) (r : Row) (e : r ≡ rowOf v) (c : ℕ) (some : 1 ≤ c) wher
   pub can-go-back : c + rowOf v .x3 ≤ rowOf v .x1 → c + rowOf v .y3 ≤ rowOf v .y1 → Sound r × (1 ≤ c) × (c + r .x3 ≤ r .x1) × (c + r .y3 ≤ r .y1)
   can-go-back h g = subst (λ (x : Row). Sound x × (1 ≤ c) × (c + x .x3 ≤ x .x1) × (c + x .y3 ≤ x .y1)) (sym e) (sound v, some, h, g)
 
+-- the clocks of a round can always be undone at once
+pub can-undo-round : (v : ℕ) (r : Row) → r ≡ rowOf v → Sound r × (1 ≤ rowOf v .clocks) × (rowOf v .clocks + r .x3 ≤ r .x1) × (rowOf v .clocks + r .y3 ≤ r .y1)
+can-undo-round v r e = let s = sound v in can-go-back v r e (rowOf v .clocks) (s .some) (s .gap1) (s .gap2)
+
 -- three steps back of c clocks each
 pub undone-in-three : (v r : Row) (e : r ≡ v) (c : ℕ) (w w₁ w₂ : RoundInput) (s a b d : Registers)
     → w₁ ≡ without c w → w₂ ≡ without (c + c) w → a ≡ unclocksBy r c w s → b ≡ unclocksBy r c w₁ a → d ≡ unclocksBy r c w₂ b

@@ -1,5 +1,5 @@
 // Several clocks at once, forward and back. The lowest tap of a register is 3, 6 or 9 places up, so that the bits which enter in 4,
-// 6 or 9 clocks depend on bits that are there already: one formula over words gives them all.
+// 6 or 9 clocks depend only on bits that are there already: one formula over words gives them all.
 ghost use mathlib.Core.Path.{_≡_};
 ghost use Prim.Native.Nat.{_<_, _≤_, _+_, _^_, _/_};
 ghost use Rattle.katan.specs.Bit.{xor, and};
@@ -112,8 +112,8 @@ fn without(c: usize, w: RoundInput) -> RoundInput
     }
 }
 
-// The rounds that are worked at once: four of 32-bit blocks, three of the others. One function for each width, with the row a
-// constant, so that its taps are compiled in.
+// A stride: four rounds of 32-bit blocks, three of the others. One function for each width, with the row a constant, so that its
+// taps are compiled in.
 pub fn rounds_32(w: RoundInput, s: Registers) -> Registers
     ensures { λ r. ⌜ r ≡ clocksBy row32 (strideClocks row32) w s ⌝ }
 {

@@ -8,9 +8,9 @@ use lib.Bits.{bitOr, or-lt, or-shifted}
 use lib.Pow.{pow-pos, pow-add, pow-mono, shl-exact, shl-lt, shr-lt, shr-le, mod-pow-add, mod-mod-pow, high, low}
 use Rattle.katan.specs.Bit.{xor}
 use Rattle.katan.specs.Key.{keyLength}
-use Rattle.katan.proofs.Bits.{one-shifted, joined-lt}
+use Rattle.katan.proofs.Bits.{one-shifted, raised, lifted, joined-lt}
 use Rattle.katan_keys.specs.Window.{longestStep, slid, ahead, behind}
-use Rattle.katan_keys.proofs.Words.{low-same, raised, lifted, stood-lower, from-low, from-high, shifted-down, shifted-up}
+use Rattle.katan_keys.proofs.Words.{low-same, stood-lower, from-low, from-high, shifted-down, shifted-up}
 
 -- any bits that enter at the top leave the high word a word
 module _ (h c e : ℕ) (few : c ≤ longestStep) where

@@ -7,6 +7,7 @@ use native.Mathlib.Omega.{arith}
 use lib.Bits.{xor-mod}
 use lib.Pow.{pow-pos, pow-add, shr-shr, shl-shr, shl-lt, high, low, split, mod-mod-pow, field}
 use Rattle.katan.specs.Bit.{xor}
+use Rattle.katan.proofs.Bits.{raised}
 
 -- the low s bits of an xor of four go by theirs
 four-low : (s a b c d : ℕ) → xor (xor (xor a b) c) d % 2 ^ s ≡ xor (xor (xor (a % 2 ^ s) (b % 2 ^ s)) (c % 2 ^ s)) (d % 2 ^ s)
@@ -16,19 +17,6 @@ four-low s a b c d =
 pub low-same : (s a b c d a′ b′ c′ d′ : ℕ) → a % 2 ^ s ≡ a′ % 2 ^ s → b % 2 ^ s ≡ b′ % 2 ^ s → c % 2 ^ s ≡ c′ % 2 ^ s → d % 2 ^ s ≡ d′ % 2 ^ s
     → xor (xor (xor a b) c) d % 2 ^ s ≡ xor (xor (xor a′ b′) c′) d′ % 2 ^ s
 low-same s a b c d a′ b′ c′ d′ e f g h = four-low s a b c d ∙ ap₂ xor (ap₂ xor (ap₂ xor e f) g) h ∙ sym (four-low s a′ b′ c′ d′)
-
--- h, shifted up by m bits: all but its low s bits leave a word
-module _ (h s m : ℕ) (word : s + m ≡ 64) where
-  pub raised : h * 2 ^ m ≡ h / 2 ^ s * 2 ^ 64 + (h % 2 ^ s) * 2 ^ m
-  raised =
-      ap (λ (y : ℕ). y * 2 ^ m) (sym (split h s))
-      ∙ add-mul _ _ (2 ^ m)
-      ∙ ap (λ (y : ℕ). y + (h % 2 ^ s) * 2 ^ m) (mul-assoc _ (2 ^ s) (2 ^ m) ∙ ap (h / 2 ^ s *_) (sym (pow-add 2 s m) ∙ ap (λ (n : ℕ). 2 ^ n) word))
-
-  pub lifted : (h * 2 ^ m) % 2 ^ 64 ≡ (h % 2 ^ s) * 2 ^ m
-  lifted =
-      let fits : (h % 2 ^ s) * 2 ^ m < 2 ^ 64 = subst (λ (n : ℕ). (h % 2 ^ s) * 2 ^ m < 2 ^ n) word (shl-lt s m (mod-lt h (pow-pos s))) in
-      ap (λ (y : ℕ). y % 2 ^ 64) raised ∙ low (h / 2 ^ s) 64 fits
 
 -- before it was shifted up, the number stood lower
 pub stood-lower : (x s j : ℕ) → s ≤ j → x / 2 ^ (j - s) ≡ (x * 2 ^ s) / 2 ^ j

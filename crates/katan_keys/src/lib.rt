@@ -118,7 +118,7 @@ pub fn previous_source(variant: u8, w: Window) -> Window
     }
 }
 
-// The same after the rounds that are worked at once, and before them.
+// The same a stride later, and a stride earlier.
 pub fn source_ahead(variant: u8, w: Window) -> Window
     ensures { λ r. ⌜ windowNumber r ≡ nextSource variant (strideOf (rowOf variant)) (windowNumber w) ⌝ }
 {

@@ -23,7 +23,7 @@ use Rattle.katan_origin.specs.declared.chains.Traced.{Traced}
 use Rattle.katan_origin.proofs.Formulas.{same-traced}
 use Rattle.katan_origin.proofs.Followed.{fa-followed, fb-followed, place-few, fa-at-most, fb-at-most}
 
--- ---- the places of L1 lie in the block
+-- ---- the places of L1 lie in the block, on a row that is a variant's
 
 pub row-sound : (v : ℕ) (row : Row) → row ≡ rowOf v → Sound row
 row-sound v row e = subst (λ (x : Row). Sound x) (sym e) (sound v)

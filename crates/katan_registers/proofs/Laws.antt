@@ -1,4 +1,5 @@
--- The rounds' inputs from the tables and from the source, one by one and in words; the moves that they make.
+-- Registers stay within their lengths; the rounds' inputs from the tables and from the source, one by one and in words; the moves
+-- that they make.
 -- Assumes nothing.
 use mathlib.Core.Path.{_≡_, refl, sym, ap, ap₂, subst, _∙_}
 use mathlib.Core.Bool.{Bool, true, false}
@@ -29,7 +30,8 @@ use Rattle.katan_keys.specs.Window.{windowNumber, longestStep, windowAt, ahead,
 use Rattle.katan_keys.proofs.Running.{running-window}
 use Rattle.katan_clocks.specs.Clocks.{lowest, clocksBy, unclocksBy}
 use Rattle.katan_clocks.specs.inner.Words.{beside, wordsOf}
-use Rattle.katan_clocks.proofs.Rounds.{rounds-by-words, unrounds-by-words}
+use Rattle.katan_clocks.proofs.Shifts.{some-ones}
+use Rattle.katan_clocks.proofs.Rounds.{inputs, same-input, rounds-by-words, unrounds-by-words}
 use Rattle.katan_registers.specs.declared.rounds.Running.{Running}
 use Rattle.katan_registers.specs.inner.Tables.{Tables, Named, KeyBits, tableInput, keyBit, roundsInput, Moves, MovesBack}
 
@@ -47,12 +49,6 @@ module _ (v : Row) (t : Sound v) where
     unran-fits e = rw e (unrun-fits v t (inputOf n key) (input-bits n key) p c s f)
 
 -- ---- the tables and the source of a position give each round its input
-
-abbrev pub input : ℕ → ℕ → ℕ → RoundInput
-input x y z = record { ir = x; ka = y; kb = z }
-
-pub same-input : {x y z x′ y′ z′ : ℕ} → x ≡ x′ → y ≡ y′ → z ≡ z′ → input x y z ≡ input x′ y′ z′
-same-input e f g = rw (e, f, g)
 
 -- it is bits
 lowest-bits : (u : RoundInput) → Bits u → lowest u ≡ u
@@ -89,14 +85,14 @@ module _ (counters numbers : List ℕ) (ts : Tables counters numbers) where
 
         by-kind : (b : Bool) → isKatan v ≡ b → tableInput v (tabulate counter 0 rounds) (tabulate keyBitNumber 0 (2 * rounds)) r (sourceAt v key r) ≡ inputOf v key r
         by-kind true s =
-            rw s (ap (λ (x : ℕ). input x (bit (windowAt key r) 0) (bit (windowAt key r) 1)) t ∙ sym (running-window .taken v key r (leb-true v lastKatan s) q))
+            rw s (ap (λ (x : ℕ). inputs x (bit (windowAt key r) 0) (bit (windowAt key r) 1)) t ∙ sym (running-window .taken v key r (leb-true v lastKatan s) q))
         by-kind false s =
-            rw s (ap₂ (λ (x y : ℕ). input x (bit key y) (bit key (getD (tabulate keyBitNumber 0 (2 * rounds)) (2 * r + 1) 0))) t (numbered (2 * r) (omega arith))
-            ∙ ap (λ (y : ℕ). input (irOf (counter r)) (bit key (keyBitNumber (2 * r))) (bit key y)) (numbered (2 * r + 1) (omega arith))
+            rw s (ap₂ (λ (x y : ℕ). inputs x (bit key y) (bit key (getD (tabulate keyBitNumber 0 (2 * rounds)) (2 * r + 1) 0))) t (numbered (2 * r) (omega arith))
+            ∙ ap (λ (y : ℕ). inputs (irOf (counter r)) (bit key (keyBitNumber (2 * r))) (bit key y)) (numbered (2 * r + 1) (omega arith))
             ∙ sym (ktantan-input v key r (leb-false v lastKatan s) q))
 
     -- what one round takes is its input, with a source that is its position's
-    pub one-input : (r w : ℕ) (u : RoundInput) → r < rounds → w ≡ sourceAt v key r → u ≡ tableInput v counters numbers r w → lowest u ≡ inputOf v key r
+    one-input : (r w : ℕ) (u : RoundInput) → r < rounds → w ≡ sourceAt v key r → u ≡ tableInput v counters numbers r w → lowest u ≡ inputOf v key r
     one-input r w u q h e = let i = e ∙ table-input r w q h in ap lowest i ∙ lowest-bits (inputOf v key r) (input-bits v key r)
 
     -- the key bits of the rounds after r: those of a KATAN stand in the window of r
@@ -175,9 +171,6 @@ module _ (c x y z : ℕ) (few : c ≤ 3) (p : x < 2 ^ 8) (q : y < 2 ^ 8) (r : z 
   pub three-fit : (((x * 2 ^ c) % 2 ^ 64 + y) * 2 ^ c) % 2 ^ 64 + z < 2 ^ 64
   three-fit = omega (arith, two, most (x * 2 ^ c + y), most x)
 
-  pub ones : 1 ≤ (1 * 2 ^ c) % 2 ^ 64
-  ones = rw (one-shifted c (omega arith)) (pow-pos c)
-
   pub three-filled : ((((x * 2 ^ c) % 2 ^ 64 + y) * 2 ^ c) % 2 ^ 64 + z) * ((1 * 2 ^ c) % 2 ^ 64 - 1) ≡ ((x * 2 ^ c + y) * 2 ^ c + z) * (2 ^ c - 1)
   three-filled = ap₂ (λ (a b : ℕ). (a + z) * (b - 1)) two (one-shifted c (omega arith))
 
@@ -210,7 +203,7 @@ module _ (v key p c w : ℕ) (few : c ≤ longestStep) where
       by-kind true = running-window .forth key p c few
       by-kind false = refl
 
-  pub source-previous : w ≡ sourceAt v key (p + c) → previousSource v c w ≡ sourceAt v key p
+  source-previous : w ≡ sourceAt v key (p + c) → previousSource v c w ≡ sourceAt v key p
   source-previous e = ap (previousSource v c) e ∙ by-kind (isKatan v)
     where
       by-kind : (b : Bool) → pick b (behind c (pick b (windowAt key (p + c)) key)) (pick b (windowAt key (p + c)) key) ≡ pick b (windowAt key p) key

@@ -1,4 +1,4 @@
-// Runs of rounds, forward and back: as many at once as the width allows, then single ones.
+// Runs of rounds, forward and back: strides, and single rounds for the rest.
 ghost use mathlib.Core.Path.{_≡_};
 ghost use Prim.Native.Nat.{ℕ, _<_, _≤_, _^_, _+_, _-_, _*_};
 ghost use Rattle.katan.specs.Counter.{rounds};
@@ -62,8 +62,7 @@ fn unround_of(
     }
 }
 
-// The rounds that are worked at once, from round r on. All of it stands in the arm of its width: so the loop around it is compiled
-// once for each.
+// A stride, from round r on. All of it stands in the arm of its width: so the loop around it is compiled once for each.
 fn stride_of(
     variant: u8,
     counters: &[u8; katan::ROUND_COUNT],
@@ -167,25 +166,6 @@ fn strides_by(
     t
 }
 
-// n single rounds from round r on.
-fn singles(
-    variant: u8,
-    counters: &[u8; katan::ROUND_COUNT],
-    numbers: &[u8; katan::ROUND_KEYS],
-    r: usize,
-    n: usize,
-    h: Running,
-) -> Running
-    requires { ⌜ (r + n ≤ rounds) × Tables (now counters) (now numbers) ⌝ }
-    ensures { λ t. ⌜ ((key : ℕ) → Moves variant key r n h t) ⌝ }
-{
-    let mut t = h;
-    for i in 0..n {
-        t = round_of(variant, counters, numbers, r + i, t);
-    }
-    t
-}
-
 // The same undone, down to round r.
 fn unstrides_by(
     variant: u8,
@@ -209,7 +189,26 @@ fn unstrides_by(
     t
 }
 
-// n single rounds undone, down to round r.
+// n single rounds from round r on.
+fn singles(
+    variant: u8,
+    counters: &[u8; katan::ROUND_COUNT],
+    numbers: &[u8; katan::ROUND_KEYS],
+    r: usize,
+    n: usize,
+    h: Running,
+) -> Running
+    requires { ⌜ (r + n ≤ rounds) × Tables (now counters) (now numbers) ⌝ }
+    ensures { λ t. ⌜ ((key : ℕ) → Moves variant key r n h t) ⌝ }
+{
+    let mut t = h;
+    for i in 0..n {
+        t = round_of(variant, counters, numbers, r + i, t);
+    }
+    t
+}
+
+// The same undone, down to round r.
 fn unsingles(
     variant: u8,
     counters: &[u8; katan::ROUND_COUNT],
@@ -260,7 +259,7 @@ fn strides(
     strides_by(variant, counters, numbers, &bits, r, n, h)
 }
 
-// n strides undone, down to round r.
+// The same undone, down to round r.
 fn unstrides(
     variant: u8,
     counters: &[u8; katan::ROUND_COUNT],

@@ -139,7 +139,7 @@ pub fn row_of(variant: u8) -> RowAnswer
     }
 }
 
-// The rounds of a variant that are worked at once; KATAN32's where there is no such variant.
+// The rounds of a variant's stride; KATAN32's where there is no such variant.
 pub fn stride(variant: u8) -> usize
     ensures { λ r. ⌜ r ≡ strideOf (rowOf variant) ⌝ }
 {

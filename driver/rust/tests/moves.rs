@@ -1,7 +1,7 @@
 //! One move from every position to every other, of lanes that are loaded where it starts. Their registers
 //! are compared with the traces of the independent model, which it makes by single rounds. The lanes that
 //! are named go the whole count, and the others stay; `every_count` of traces.rs names all lanes, so that
-//! some are cut short and none stays. What a wrong program that works several rounds at once would be caught
+//! some are cut short and none is left out. What a wrong program that works several rounds at once would be caught
 //! at:
 //!
 //! - the rounds left over, where the count is no multiple, that are left out or become more;
@@ -12,10 +12,10 @@
 
 mod common;
 
-use common::generator;
+use common::{generator, Traced};
 use katan_bench::raw::{BENCH_LENGTH, LANES, LANE_LENGTH};
-use katan_bench::{Bench, Reading, Reply};
-use katan_model::{bench as records, registers_at, trace, Random, Variant, ROUNDS};
+use katan_bench::{Bench, Reply};
+use katan_model::{bench as records, Variant, ROUNDS};
 
 /// Moves from each of the 255 positions to each further on. There are as many back.
 const PAIRS: u32 = 255 * 254 / 2;
@@ -42,36 +42,6 @@ const WAYS: [Way; 2] = [
     },
 ];
 
-/// A lane to be loaded at a position, with the model's registers at all positions.
-struct Lane {
-    key: [u8; 10],
-    position: u8,
-    trace: Vec<u64>,
-}
-
-impl Lane {
-    /// A random key, and a random block at the position.
-    fn random(random: &mut Random, variant: Variant, position: u8) -> Lane {
-        let (key, block) = (random.key(), random.bits(variant.width()));
-        // From the block the model goes back to position 0, and from there on through all of them.
-        let first = registers_at(variant, &key, position, 0, block);
-        let trace = trace(variant, &key, first);
-        assert_eq!(trace[position as usize], block);
-        Lane {
-            key,
-            position,
-            trace,
-        }
-    }
-
-    fn at(&self, position: u8) -> Reading {
-        Reading {
-            position,
-            registers: self.trace[position as usize],
-        }
-    }
-}
-
 fn names(mask: u64, lane: usize) -> bool {
     mask >> lane & 1 == 1
 }
@@ -80,11 +50,11 @@ fn names(mask: u64, lane: usize) -> bool {
 struct Start<'a> {
     variant: Variant,
     bench: Bench,
-    lanes: &'a [Lane],
+    lanes: &'a [Traced],
 }
 
 impl Start<'_> {
-    fn loaded(variant: Variant, lanes: &[Lane]) -> Start<'_> {
+    fn loaded(variant: Variant, lanes: &[Traced]) -> Start<'_> {
         let mut bench = Bench::open(variant.number()).unwrap();
         for (i, lane) in (0..).zip(lanes) {
             let (number, block) = (i as u32 + 1, lane.at(lane.position).registers);
@@ -101,7 +71,7 @@ impl Start<'_> {
 
     /// The lanes that go the whole count.
     fn whole(&self, way: &Way, count: u8) -> u64 {
-        let goes = |lane: &Lane| (way.end)(lane.position, count).is_some() as u64;
+        let goes = |lane: &Traced| (way.end)(lane.position, count).is_some() as u64;
         (0..)
             .zip(self.lanes)
             .fold(0, |mask, (i, lane)| mask | goes(lane) << i)
@@ -155,8 +125,8 @@ fn whole_moves() {
     let mut random = generator("whole_moves");
     let mut moves = [0; 2];
     for variant in (0..SETS).flat_map(|_| Variant::ALL) {
-        let lanes: Vec<Lane> = (0..=ROUNDS)
-            .map(|position| Lane::random(&mut random, variant, position))
+        let lanes: Vec<Traced> = (0..=ROUNDS)
+            .map(|position| Traced::random(&mut random, variant, position))
             .collect();
         for lanes in lanes.chunks(LANES) {
             let start = Start::loaded(variant, lanes);

@@ -13,9 +13,9 @@
 
 mod common;
 
-use common::{call_answer, generator, model_answer};
-use katan_bench::{Answer, Call, Reading, Refusal, Reply};
-use katan_model::{bench as records, trace, Random, Variant, ROUNDS};
+use common::{call_answer, generator, model_answer, Traced};
+use katan_bench::{Answer, Call, Refusal, Reply};
+use katan_model::{bench as records, Random, Variant, ROUNDS};
 use std::collections::HashSet;
 
 const ALL: u64 = u64::MAX;
@@ -25,40 +25,10 @@ type Way = fn(u32, u64, u8) -> Vec<u8>;
 
 const WAYS: [Way; 2] = [records::forward, records::back];
 
-/// A lane to be loaded at a position, with the model's registers at all positions.
-struct Lane {
-    key: [u8; 10],
-    position: u8,
-    trace: Vec<u64>,
-}
-
-impl Lane {
-    /// The lane whose registers are `block` at position 0.
-    fn new(variant: Variant, key: [u8; 10], position: u8, block: u64) -> Lane {
-        Lane {
-            key,
-            position,
-            trace: trace(variant, &key, block),
-        }
-    }
-
-    fn random(random: &mut Random, variant: Variant, position: u8) -> Lane {
-        let key = random.key();
-        Lane::new(variant, key, position, random.bits(variant.width()))
-    }
-
-    fn at(&self, position: u8) -> Reading {
-        Reading {
-            position,
-            registers: self.trace[position as usize],
-        }
-    }
-}
-
 /// Lanes at every position, each with a key of its own.
-fn everywhere(random: &mut Random, variant: Variant) -> Vec<Lane> {
+fn everywhere(random: &mut Random, variant: Variant) -> Vec<Traced> {
     (0..=ROUNDS)
-        .map(|position| Lane::random(random, variant, position))
+        .map(|position| Traced::random(random, variant, position))
         .collect()
 }
 
@@ -67,11 +37,11 @@ fn everywhere(random: &mut Random, variant: Variant) -> Vec<Lane> {
 struct Sheet<'a> {
     ours: katan_bench::Bench,
     theirs: katan_model::Bench,
-    lanes: &'a [Lane],
+    lanes: &'a [Traced],
 }
 
 impl Sheet<'_> {
-    fn loaded(variant: Variant, lanes: &[Lane]) -> Sheet<'_> {
+    fn loaded(variant: Variant, lanes: &[Traced]) -> Sheet<'_> {
         let mut sheet = Sheet {
             ours: katan_bench::Bench::open(variant.number()).unwrap(),
             theirs: katan_model::Bench::new(variant.number()).unwrap(),
@@ -136,8 +106,8 @@ impl Sheet<'_> {
 fn there_and_back() {
     let mut random = generator("there_and_back");
     for variant in Variant::ALL {
-        let lanes: Vec<Lane> = (0..records::LANES)
-            .map(|_| Lane::random(&mut random, variant, 0))
+        let lanes: Vec<Traced> = (0..records::LANES)
+            .map(|_| Traced::random(&mut random, variant, 0))
             .collect();
         Sheet::loaded(variant, &lanes).walk();
     }
@@ -185,9 +155,9 @@ fn single_bits() -> Vec<[u8; 10]> {
 #[test]
 fn keys_that_tell() {
     for variant in Variant::ALL {
-        let lanes: Vec<Lane> = single_bits()
+        let lanes: Vec<Traced> = single_bits()
             .into_iter()
-            .map(|key| Lane::new(variant, key, 0, 0))
+            .map(|key| Traced::new(variant, key, 0, 0))
             .collect();
         let traces: HashSet<&Vec<u64>> = lanes.iter().map(|lane| &lane.trace).collect();
         assert_eq!(traces.len(), 160, "{variant:?}: two keys have one trace");

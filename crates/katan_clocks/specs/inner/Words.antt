@@ -1,5 +1,5 @@
--- What private functions say: several clocks as one formula over words, and the words of several rounds. No promise of a public function
--- cites it.
+-- The law's formulas, several clocks as one over words, and what private functions say: the words of several rounds. No promise of a
+-- public function cites it.
 -- Assumes nothing.
 use Prim.Native.Nat.{ℕ, zero, suc, _+_, _-_, _*_, _/_, _%_, _^_}
 use Rattle.katan.specs.Bit.{xor, and}

@@ -44,13 +44,13 @@ abbrev pub roundsInput : ℕ → List ℕ → List ℕ → List ℕ → (r w j :
 roundsInput v counters numbers bits r w j =
     record { ir = bit (getD counters r 0) (7 - j); ka = keyBit v numbers bits r w 0 j; kb = keyBit v numbers bits r w 1 j }
 
--- t is h moved on by rounds p to p + m - 1, the source with the registers
+-- where h has the source of p, t is h moved on by rounds p to p + m - 1, the source with the registers
 abbrev pub Moves : (v key p m : ℕ) → Running → Running → Type 0
 Moves v key p m h t =
     windowNumber (h .source) ≡ sourceAt v key p
     → (t .registers ≡ run (rowOf v) (inputOf v key) p m (h .registers)) × (windowNumber (t .source) ≡ sourceAt v key (p + m))
 
--- t is h moved back by the same rounds
+-- where h has the source of p + m, t is h moved back by the same rounds
 abbrev pub MovesBack : (v key p m : ℕ) → Running → Running → Type 0
 MovesBack v key p m h t =
     windowNumber (h .source) ≡ sourceAt v key (p + m)

@@ -5,7 +5,7 @@
 #![allow(dead_code)]
 
 use katan_bench::{Answer, Call, Lane, Preview, Reading, Refusal, Reply};
-use katan_model::{bench as records, Random, Variant};
+use katan_model::{bench as records, trace, Random, Variant};
 
 /// A number from the environment, or the one given.
 fn setting(name: &str, usual: u64) -> u64 {
@@ -234,4 +234,34 @@ pub fn with_previews(
         }
     }
     events
+}
+
+/// A lane to be loaded at a position, with the model's registers at all positions.
+pub struct Traced {
+    pub key: [u8; 10],
+    pub position: u8,
+    pub trace: Vec<u64>,
+}
+
+impl Traced {
+    /// The lane whose registers are `block` at position 0.
+    pub fn new(variant: Variant, key: [u8; 10], position: u8, block: u64) -> Traced {
+        Traced {
+            key,
+            position,
+            trace: trace(variant, &key, block),
+        }
+    }
+
+    pub fn random(random: &mut Random, variant: Variant, position: u8) -> Traced {
+        let key = random.key();
+        Traced::new(variant, key, position, random.bits(variant.width()))
+    }
+
+    pub fn at(&self, position: u8) -> Reading {
+        Reading {
+            position,
+            registers: self.trace[position as usize],
+        }
+    }
 }

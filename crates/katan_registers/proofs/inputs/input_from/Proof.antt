@@ -1,6 +1,6 @@
 use mathlib.Core.Path.{ap}
 use Rattle.katan.specs.Counter.{irOf}
-use Rattle.katan_registers.proofs.Laws.{same-input}
+use Rattle.katan_clocks.proofs.Rounds.{same-input}
 use borrow.Author.Needs.{needs}
 use Rattle.katan_registers.proofs.inputs.input_from.Statement.{statement}
 use Rattle.katan_registers.proofs.inputs.input_from.Tie as tie

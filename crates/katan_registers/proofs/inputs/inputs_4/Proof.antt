@@ -1,4 +1,4 @@
-use Rattle.katan_registers.proofs.Laws.{same-input}
+use Rattle.katan_clocks.proofs.Rounds.{same-input}
 use borrow.Author.Needs.{needs}
 use Rattle.katan_registers.proofs.inputs.inputs_4.Statement.{statement}
 use Rattle.katan_registers.proofs.inputs.inputs_4.Tie as tie

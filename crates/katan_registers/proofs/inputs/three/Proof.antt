@@ -1,4 +1,6 @@
-use Rattle.katan_registers.proofs.Laws.{two-fit, three-fit, ones, filled-fits, three-filled}
+use native.Mathlib.Omega.{arith}
+use Rattle.katan_clocks.proofs.Shifts.{some-ones}
+use Rattle.katan_registers.proofs.Laws.{two-fit, three-fit, filled-fits, three-filled}
 use borrow.Author.Needs.{needs}
 use Rattle.katan_registers.proofs.inputs.three.Statement.{statement}
 use Rattle.katan_registers.proofs.inputs.three.Tie as tie
@@ -19,7 +21,7 @@ shl-result-3 : tie.Need-shl-result-3
 shl-result-3 c = search needs
 
 sub-result : tie.Need-sub-result
-sub-result c = ones (c .args .c) (c .args .x) (c .args .y) (c .args .z) (c .pre .0) (c .pre .1) (c .pre .2) (c .pre .3)
+sub-result c = some-ones (c .args .c) (omega (arith, c .pre .0))
 
 mul-result : tie.Need-mul-result
 mul-result c = record { fits = filled-fits (c .args .c) (c .args .x) (c .args .y) (c .args .z) (c .pre .0) (c .pre .1) (c .pre .2) (c .pre .3) }
