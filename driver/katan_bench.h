@@ -22,7 +22,7 @@
  * wipe its stack, where copies of keys may stay.
  *
  * Stack. A call needs up to 42 kB, measured on x86-64 without what a dynamic linker takes: katan_keystream 42,
- * katan_encrypt_many and katan_decrypt_many 40, katan_replay 36, katan_preview 30, katan_arrive 28, katan_read 13,
+ * katan_encrypt_many and katan_decrypt_many 40, katan_replay 36, katan_preview 31, katan_arrive 28, katan_read 13,
  * katan_screen 12, katan_origin 4, every other under 3.
  * The archive calls the C library's memcpy and memset.
  */

@@ -1,8 +1,8 @@
 //! One move from every position to every other, of lanes that are loaded where it starts. Their registers
 //! are compared with the traces of the independent model, which it makes by single rounds. The lanes that
 //! are named go the whole count, and the others stay; `every_count` of traces.rs names all lanes, so that
-//! some are cut short and none is left out. What a wrong program that works several rounds at once would be caught
-//! at:
+//! some are cut short and none is left out. What a wrong program that works several rounds at once would
+//! be caught at:
 //!
 //! - the rounds left over, where the count is no multiple, that are left out or become more;
 //! - IR or key bits that change places among the rounds of one go, or ka with kb;
