@@ -132,11 +132,17 @@ module _ (v : Row) (l : ℕ) where
 -- a map from one kind of bits to another that keeps xor and and keeps the formulas
 module _ {A B : Type 0} (x₁ a₁ : A → A → A) (x₂ a₂ : B → B → B) (h : A → B)
     (hx : (p q : A) → h (x₁ p q) ≡ x₂ (h p) (h q)) (ha : (p q : A) → h (a₁ p q) ≡ a₂ (h p) (h q)) (v : Row) where
+  pub fa-rest-map : (l : ℕ → A) (ir ka : A) → h (faRest x₁ a₁ v l ir ka) ≡ faRest x₂ a₂ v (λ i. h (l i)) (h ir) (h ka)
+  fa-rest-map l ir ka = simp (hx, ha)
+
   pub fa-map : (l : ℕ → A) (ir ka : A) → h (fa x₁ a₁ v l ir ka) ≡ fa x₂ a₂ v (λ i. h (l i)) (h ir) (h ka)
-  fa-map l ir ka = simp (hx, ha)
+  fa-map l ir ka = hx _ _ ∙ ap (x₂ (h (l (v .x1)))) (fa-rest-map l ir ka)
+
+  pub fb-rest-map : (l : ℕ → A) (kb : A) → h (fbRest x₁ a₁ v l kb) ≡ fbRest x₂ a₂ v (λ i. h (l i)) (h kb)
+  fb-rest-map l kb = simp (hx, ha)
 
   pub fb-map : (l : ℕ → A) (kb : A) → h (fb x₁ a₁ v l kb) ≡ fb x₂ a₂ v (λ i. h (l i)) (h kb)
-  fb-map l kb = simp (hx, ha)
+  fb-map l kb = hx _ _ ∙ ap (x₂ (h (l (v .y1)))) (fb-rest-map l kb)
 
 -- ---- bits of shifted numbers; numbers with the same bits are equal
 

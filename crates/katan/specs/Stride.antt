@@ -1,5 +1,5 @@
--- A stride: the rounds of one block that the code works at once. It undoes them together too, but where the next tap stands too near
--- the highest round by round.
+-- A stride: the rounds of one block that the code works at once. Back, it undoes them at once as well, or, where the next tap stands too
+-- near the highest, round by round.
 -- Assumes nothing.
 use Prim.Native.Nat.{ℕ, _+_, _*_, _/_}
 use Rattle.katan.specs.declared.Row.{Row}

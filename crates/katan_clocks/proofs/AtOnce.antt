@@ -13,7 +13,7 @@ use Rattle.katan.specs.inner.Within.{Sound}
 use Rattle.katan.specs.declared.Row.{Row}
 use Rattle.katan.specs.declared.Registers.{Registers}
 use Rattle.katan.specs.declared.RoundInput.{RoundInput}
-use Rattle.katan.proofs.Bits.{bit-mod, bit-above, bit-lowest, bit-shr}
+use Rattle.katan.proofs.Bits.{fa-rest-map, fa-map, fb-rest-map, fb-map, bit-mod, bit-above, bit-lowest, bit-shr}
 use Rattle.katan_clocks.specs.Clocks.{lowest, earlier, clocksBy, unclocksBy}
 use Rattle.katan_clocks.specs.inner.Words.{tap, enter, atOnce, restore, undoneAtOnce, without}
 
@@ -59,14 +59,14 @@ module _ (v : Row) where
     a-rest-formula : Formula (v .x5) (v .x3 + 1) restA
     a-rest-formula =
         record {
-          maps = λ h g l w. simp (g .xors, g .ands);
+          maps = λ h g l w. fa-rest-map xor and xor and h (g .xors) (g .ands) v l (w .ir) (w .ka);
           sees = λ l m e w. cc (e (v .x2) (t .x2-low) (omega (arith, t .x2-next)), e (v .x3) (t .x3-low) (omega arith), e (v .x4) (t .x4-low) (omega (arith, t .x4-next)), e (v .x5) (omega arith) (omega (arith, t .x3-low)));
         }
 
     b-rest-formula : Formula (v .x5) (v .y3 + 1) restB
     b-rest-formula =
         record {
-          maps = λ h g l w. simp (g .xors, g .ands);
+          maps = λ h g l w. fb-rest-map xor and xor and h (g .xors) (g .ands) v l (w .kb);
           sees = λ l m e w.
               let at : (i : ℕ) → v .y6 ≤ i → i ≤ v .y3 → l i ≡ m i = λ i p q. e i (omega (arith, t .lows)) (omega arith) in
               cc (at (v .y2) (t .y2-low) (t .y2-next), at (v .y3) (t .y3-low) (omega arith), at (v .y4) (t .y4-low) (t .y4-next), at (v .y5) (t .y5-low) (t .y5-next), at (v .y6) (omega arith) (t .y3-low));
@@ -76,7 +76,7 @@ module _ (v : Row) where
     a-formula : Formula (v .x5) (v .len1) formA
     a-formula =
         record {
-          maps = λ h g l w. g .xors _ _ ∙ ap (xor (h (l (v .x1)))) (a-rest-formula .maps h g l w);
+          maps = λ h g l w. fa-map xor and xor and h (g .xors) (g .ands) v l (w .ir) (w .ka);
           sees = λ l m e w.
               ap₂ xor (e (v .x1) (omega (arith, t .x5-in)) (omega (arith, t .top1)))
               (a-rest-formula .sees l m (λ i p q. e i p (omega (arith, t .x3-in, t .top1))) w);
@@ -85,7 +85,7 @@ module _ (v : Row) where
     b-formula : Formula (v .x5) (v .len2) formB
     b-formula =
         record {
-          maps = λ h g l w. g .xors _ _ ∙ ap (xor (h (l (v .y1)))) (b-rest-formula .maps h g l w);
+          maps = λ h g l w. fb-map xor and xor and h (g .xors) (g .ands) v l (w .kb);
           sees = λ l m e w.
               ap₂ xor (e (v .y1) (omega (arith, t .y6-in, t .lows)) (omega (arith, t .top2)))
               (b-rest-formula .sees l m (λ i p q. e i p (omega (arith, t .y3-in, t .top2))) w);

@@ -1,18 +1,20 @@
--- Clocks whose inputs stand in words are rounds.
+-- Clocks whose inputs stand in words are the clocks with these inputs, and rounds.
 -- Assumes nothing.
-use mathlib.Core.Path.{_≡_, sym, ap, ap₂, _∙_}
-use Prim.Native.Nat.{ℕ, zero, suc, _+_, _-_, _*_, _/_, _%_, _^_, _<_}
+use mathlib.Core.Path.{_≡_, refl, sym, ap, ap₂, _∙_}
+use Prim.Native.Nat.{ℕ, zero, suc, _+_, _-_, _*_, _/_, _%_, _^_, _<_, _≤_}
 use native.Mathlib.Nat.{zero-add, add-zero, add-comm, suc-add, zero-mul, suc-mul, mul-one, mul-add, add-mul, mul-assoc, mul-right-comm, mod-lt, pow-suc}
+use native.Mathlib.Numerals.{one-add}
 use native.Mathlib.Omega.{arith}
 use lib.Dec.{lit<}
 use lib.Pow.{pow-pos}
 use Rattle.katan.specs.Clock.{clock, unclock, clocks, unclocks, round, unround, run, unrun}
-use Rattle.katan.specs.inner.Within.{Bits}
+use Rattle.katan.specs.inner.Within.{Sound, Bits}
 use Rattle.katan.specs.declared.Row.{Row}
 use Rattle.katan.specs.declared.Registers.{Registers}
 use Rattle.katan.specs.declared.RoundInput.{RoundInput}
 use Rattle.katan_clocks.specs.Clocks.{lowest, earlier, clocksBy, unclocksBy}
-use Rattle.katan_clocks.specs.inner.Words.{inEach, beside, wordsOf}
+use Rattle.katan_clocks.specs.inner.Words.{atOnce, undoneAtOnce, inEach, beside, wordsOf, inTurn, undoneInTurn}
+use Rattle.katan_clocks.proofs.AtOnce.{forth, back}
 
 -- x above k places that all have the bit b
 abbrev over : (k x b : ℕ) → ℕ
@@ -107,6 +109,34 @@ module _ (v : Row) (u : ℕ → RoundInput) (b : (r : ℕ) → Bits (u r)) (p : 
       ap₂ (λ (c : ℕ) (w : RoundInput). unclocksBy v c w s) (clocks-more (v .clocks) n) (words-more (v .clocks) (λ j. u (p + j)) n)
       ∙ unclocks-then (u (p + n)) (b (p + n)) v (v .clocks) (n * v .clocks) (wordsOf (v .clocks) (λ j. u (p + j)) n) s
       ∙ unrounds-by-words n (unround v (u (p + n)) s)
+
+-- ---- any inputs, one for each clock
+
+module _ (v : Row) (u : ℕ → RoundInput) (b : (j : ℕ) → Bits (u j)) where
+  clocks-by-words : (c : ℕ) (s : Registers) → clocksBy v c (wordsOf 1 u c) s ≡ inTurn v u c s
+  unfolding clocksBy
+  clocks-by-words zero s = refl
+  clocks-by-words (suc c) s =
+      ap₂ (λ (n : ℕ) (w : RoundInput). clocksBy v n w s) (sym (one-add c)) (words-more 1 u c)
+      ∙ clocks-then (u c) (b c) v 1 c (wordsOf 1 u c) s
+      ∙ ap (clock v (u c)) (clocks-by-words c s)
+
+  unclocks-by-words : (c : ℕ) (s : Registers) → unclocksBy v c (wordsOf 1 u c) s ≡ undoneInTurn v u c s
+  unfolding unclocksBy
+  unclocks-by-words zero s = refl
+  unclocks-by-words (suc c) s =
+      ap₂ (λ (n : ℕ) (w : RoundInput). unclocksBy v n w s) (sym (one-add c)) (words-more 1 u c)
+      ∙ unclocks-then (u c) (b c) v 1 c (wordsOf 1 u c) s
+      ∙ unclocks-by-words c (unclock v (u c) s)
+
+  module _ (t : Sound v) (c : ℕ) (s : Registers) where
+    -- LAW: c clocks with inputs u(0) .. u(c - 1) are the formula over words, each input in its place, the first highest
+    pub several : 1 ≤ c → c ≤ v .x5 + 1 → atOnce v c (wordsOf 1 u c) s ≡ inTurn v u c s
+    several some few = forth v t c some few (wordsOf 1 u c) s ∙ clocks-by-words c s
+
+    -- LAW: and so undone
+    pub several-undone : c + v .x3 ≤ v .x1 → c + v .y3 ≤ v .y1 → undoneAtOnce v c (wordsOf 1 u c) s ≡ undoneInTurn v u c s
+    several-undone near1 near2 = back v t c near1 near2 (wordsOf 1 u c) s ∙ unclocks-by-words c s
 
 -- ---- one round: no words above its own
 

@@ -3,7 +3,7 @@
 -- Assumes nothing.
 use Prim.Native.Nat.{ℕ, zero, suc, _+_, _-_, _*_, _/_, _%_, _^_}
 use Rattle.katan.specs.Bit.{xor, and}
-use Rattle.katan.specs.Clock.{fa, fb, faRest, fbRest}
+use Rattle.katan.specs.Clock.{fa, fb, faRest, fbRest, clock, unclock}
 use Rattle.katan.specs.declared.Row.{Row}
 use Rattle.katan.specs.declared.Registers.{Registers}
 use Rattle.katan.specs.declared.RoundInput.{RoundInput}
@@ -57,3 +57,12 @@ wordsOf c u n =
       ka = beside c (λ j. u j .ka) n * (2 ^ c - 1);
       kb = beside c (λ j. u j .kb) n * (2 ^ c - 1);
     }
+
+-- c clocks with the inputs u(0) .. u(c - 1), and the same undone
+abbrev pub inTurn : Row → (ℕ → RoundInput) → ℕ → Registers → Registers
+inTurn v u zero s = s
+inTurn v u (suc c) s = clock v (u c) (inTurn v u c s)
+
+abbrev pub undoneInTurn : Row → (ℕ → RoundInput) → ℕ → Registers → Registers
+undoneInTurn v u zero s = s
+undoneInTurn v u (suc c) s = undoneInTurn v u c (unclock v (u c) s)

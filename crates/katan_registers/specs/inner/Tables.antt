@@ -35,7 +35,8 @@ abbrev pub tableInput : ℕ → List ℕ → List ℕ → ℕ → ℕ → RoundI
 tableInput v counters numbers r w =
     inputFrom (getD counters r 0) w (pick (isKatan v) 0 (getD numbers (2 * r) 0)) (pick (isKatan v) 1 (getD numbers (2 * r + 1) 0))
 
--- ka of round r + j where i is 0, kb where it is 1: from w, which round r finds its key bits in, or from the bits that a KTANTAN's rounds pick from
+-- ka of round r + j where i is 0, kb where it is 1: from w, which round r finds its key bits in, or from the bits that a KTANTAN's rounds
+-- pick from
 abbrev pub keyBit : ℕ → List ℕ → List ℕ → (r w i j : ℕ) → ℕ
 keyBit v numbers bits r w i j = pick (isKatan v) (bit w (i + 2 * j)) (getD bits (getD numbers (2 * r + i + 2 * j) 0) 0)
 
