@@ -1,34 +1,36 @@
 // The bench of lanes and the link: types, and, in specs/, what an arrival and a read make of them.
+#![tactic(auto)]
+
 use bench_record::LENGTH;
 use katan::{Key, LANES, Refusal, RoundPosition};
 
 // What a loaded lane holds: the key, and the registers at its position.
-#[derive(Drop)]
+#[derive(Clone, Copy)]
 pub struct Loaded {
     pub key: Key,
     pub position: RoundPosition,
     pub registers: u64,
 }
 
-#[derive(Drop)]
+#[derive(Clone, Copy)]
 pub enum Lane {
     Empty,
     Held(Loaded),
 }
 
-#[derive(Drop)]
+#[derive(Clone, Copy)]
 pub struct Slot {
     pub lane: Lane,
 }
 
-#[derive(Drop)]
+#[derive(Clone, Copy)]
 pub struct Bench {
     pub variant: u8,
     pub slots: [Slot; LANES],
 }
 
 // The last counted number, 0 when fresh; its record and its total.
-#[derive(Drop)]
+#[derive(Clone, Copy)]
 pub struct Link {
     pub last: u32,
     pub bytes: [u8; LENGTH],
@@ -36,7 +38,7 @@ pub struct Link {
 }
 
 // What an arrival answers: number and total, or the first fault found.
-#[derive(Drop)]
+#[derive(Clone, Copy)]
 pub enum Reply {
     Done { number: u32, total: u32 },
     Again { number: u32, total: u32 },
@@ -44,7 +46,7 @@ pub enum Reply {
 }
 
 // What an arrival leaves, and answers.
-#[derive(Drop)]
+#[derive(Clone, Copy)]
 pub struct ArrivalResult {
     pub bench: Bench,
     pub link: Link,
@@ -52,21 +54,21 @@ pub struct ArrivalResult {
 }
 
 // The same where the link is lent.
-#[derive(Drop)]
+#[derive(Clone, Copy)]
 pub struct LentArrivalResult {
     pub bench: Bench,
     pub reply: Reply,
 }
 
 // What a loaded lane shows.
-#[derive(Drop)]
+#[derive(Clone, Copy)]
 pub struct Reading {
     pub position: RoundPosition,
     pub registers: u64,
 }
 
 // What a read answers: the lane's reading, or the first fault found.
-#[derive(Drop)]
+#[derive(Clone, Copy)]
 pub enum ReadAnswer {
     At(Reading),
     Refused(Refusal),

@@ -1,4 +1,6 @@
 // The checks of an arrival, in their order: the first fault found is answered.
+#![tactic(auto)]
+
 ghost use Rattle.std.specs.Prelude.{◌≡◌, ℕ, List, [], ◌∷◌};
 ghost use Rattle.katan.specs.Checks.{value, Check, checked};
 ghost use Rattle.katan.specs.Variant.{width_of};
@@ -66,7 +68,7 @@ pub fn bad_bench(bench: Bench) -> bool
 }
 
 // What the checks decide of a record.
-#[derive(Drop)]
+#[derive(Clone, Copy)]
 pub enum Decision {
     Counts,
     Repeats,
@@ -74,7 +76,7 @@ pub enum Decision {
 }
 
 // A record's fields, and what the checks decide of it.
-#[derive(Drop)]
+#[derive(Clone, Copy)]
 pub struct CheckedRecord {
     pub fields: Record,
     pub decision: Decision,

@@ -1,4 +1,6 @@
 // Checks 3 to 8 of a record's fields, kind by kind, each in the order of its numbers: the first fault found is answered.
+#![tactic(auto)]
+
 ghost use Rattle.std.specs.Prelude.{◌≡◌, ℕ};
 ghost use Rattle.katan.specs.Checks.{value, checked};
 ghost use Rattle.bench_record.specs.Fields.{load, forward, clear};
@@ -9,7 +11,7 @@ use bench_record::{BACK, CLEAR, FORWARD, LOAD, Record};
 use katan::{LANES, Refusal};
 
 // What the checks of a record's fields answer.
-#[derive(Drop)]
+#[derive(Clone, Copy)]
 pub enum FieldAnswer {
     Sound,
     Refused(Refusal),

@@ -1,4 +1,6 @@
 // A fresh bench and its link, and opening one.
+#![tactic(auto)]
+
 ghost use Rattle.std.specs.Prelude.{◌≡◌, [], ◌∷◌};
 ghost use Rattle.katan.specs.Checks.{value, checked, variant_check};
 ghost use Rattle.bench.specs.Bench.{fresh_bench, fresh_link};
@@ -32,14 +34,14 @@ pub fn fresh_bench(variant: u8) -> Bench
 }
 
 // What opening a bench answers.
-#[derive(Drop)]
+#[derive(Clone, Copy)]
 pub enum OpenAnswer {
     Opened,
     Refused(Refusal),
 }
 
 // A fresh bench with its link, and the answer.
-#[derive(Drop)]
+#[derive(Clone, Copy)]
 pub struct Opening {
     pub bench: Bench,
     pub link: Link,

@@ -1,4 +1,6 @@
 // A move or a clear: one lane from its own position with its own key, a slot with its bit of the mask, and all lanes.
+#![tactic(auto)]
+
 ghost use Rattle.std.specs.Prelude.{◌≡◌, ◌+◌, ◌≤◌};
 ghost use Rattle.katan.specs.Counter.{rounds};
 ghost use Rattle.bench.specs.Steps.{loaded_at, ahead as ahead_of, behind as behind_of, forward_lane, back_lane, forward_moved, back_moved, step_slots, moved_slots};
@@ -12,7 +14,7 @@ use katan::{LANES, RoundPosition};
 use katan_registers::Answer;
 
 // What a record does to each lane that it names.
-#[derive(Drop)]
+#[derive(Clone, Copy)]
 pub enum Motion {
     Forward(u8),
     Back(u8),
@@ -20,20 +22,20 @@ pub enum Motion {
 }
 
 // A lane after a motion, and the positions that it moved.
-#[derive(Drop)]
+#[derive(Clone, Copy)]
 struct LaneStep {
     lane: Lane,
     moved: u8,
 }
 
-#[derive(Drop)]
+#[derive(Clone, Copy)]
 struct SlotStep {
     slot: Slot,
     moved: u8,
 }
 
 // The bench after a record, and the record's total.
-#[derive(Drop)]
+#[derive(Clone, Copy)]
 pub struct BenchStep {
     pub bench: Bench,
     pub total: u32,

@@ -1,4 +1,6 @@
 // A record: its fields, read from its bytes and written to them, and whether two records have the same bytes.
+#![tactic(auto)]
+
 ghost use Rattle.std.specs.Prelude.{◌≡◌, ◌++◌, ◌+◌, ◌-◌, ◌≤◌, take, drop};
 ghost use Rattle.katan.specs.Bit.{bytes_of};
 ghost use Rattle.bench_record.specs.Fields.{record_length, part, same_bytes, decode};
@@ -44,7 +46,7 @@ pub const REST_AT: usize = 34;
 pub const LENGTH: usize = 40;
 
 // The fields of a record.
-#[derive(Drop)]
+#[derive(Clone, Copy)]
 pub struct Record {
     pub kind: u8,
     pub lane: u8,

@@ -10,7 +10,7 @@ use bench::{ReadAnswer, Reply};
 use katan::Refusal;
 
 // The kind, the number of 4 bytes and the number of 8.
-#[derive(Drop)]
+#[derive(Clone, Copy)]
 pub struct Fields {
     pub kind: u8,
     pub first: u32,

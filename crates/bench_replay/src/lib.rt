@@ -1,4 +1,6 @@
 // A whole list of calls, run on a fresh bench and link.
+#![tactic(auto)]
+
 ghost use Rattle.std.specs.Prelude.{◌≡◌, ℕ, ◌<◌, get_or};
 ghost use Rattle.katan.specs.Sizes.{lane_count};
 ghost use Rattle.bench.specs.Bench.{empty_slot, slot_view};
@@ -36,14 +38,14 @@ pub const AT: u8 = 3;
 pub const REFUSED: u8 = 4;
 
 // What a replay answers: that every call is run, or the first fault found.
-#[derive(Drop)]
+#[derive(Clone, Copy)]
 pub enum ReplayAnswer {
     Done,
     Refused(Refusal),
 }
 
 // The bench as the list left it, and the answer.
-#[derive(Drop)]
+#[derive(Clone, Copy)]
 pub struct Replayed {
     pub bench: Bench,
     pub answer: ReplayAnswer,

@@ -11,7 +11,7 @@ use crate::{ANSWER_LENGTH, ARRIVAL, HEAD_LENGTH};
 use bench::{ArrivalResult, Bench, Link};
 
 // What a call leaves, and its answer.
-#[derive(Drop)]
+#[derive(Clone, Copy)]
 pub struct AfterCall {
     pub bench: Bench,
     pub link: Link,

@@ -1,4 +1,6 @@
 // All lanes on the screen: the registers of every lane that a mask names, in one pass over the bench.
+#![tactic(auto)]
+
 ghost use Rattle.std.specs.Prelude.{◌≡◌, ◌||◌, [], ◌∷◌, eqb};
 ghost use Rattle.katan.specs.Bit.{pick};
 ghost use Rattle.bench.specs.Checks.{bench_check};
@@ -9,14 +11,14 @@ use bench::{Bench, Lane};
 use katan::{LANES, Refusal};
 
 // What the screen answers: the mask of the lanes shown, or the first fault found.
-#[derive(Drop)]
+#[derive(Clone, Copy)]
 pub enum ScreenAnswer {
     Shown(u64),
     Refused(Refusal),
 }
 
 // What one look at a lane finds: check 1 of it, the number that it shows, and its bit of the mask shown.
-#[derive(Drop)]
+#[derive(Clone, Copy)]
 struct LaneSeen {
     bad: bool,
     number: u64,
@@ -24,7 +26,7 @@ struct LaneSeen {
 }
 
 // The same of all lanes.
-#[derive(Drop)]
+#[derive(Clone, Copy)]
 struct Seen {
     bad: bool,
     numbers: [u64; LANES],

@@ -1,4 +1,6 @@
 // The stepping bench at work: an arrival, a preview, and a read.
+#![tactic(auto)]
+
 ghost use Rattle.std.specs.Prelude.{◌≡◌};
 ghost use Rattle.bench.specs.Bench.{arrive_of, effect_of, read_of, reading_answer};
 ghost use Rattle.bench.specs.Preview.{preview_of};
@@ -81,7 +83,7 @@ pub fn arrive_once(bench: Bench, link: Link, sent: &[u8]) -> ArrivalResult
 }
 
 // What a preview gives: the reply, and the copy with its 64 lanes.
-#[derive(Drop)]
+#[derive(Clone, Copy)]
 pub struct PreviewResult {
     pub bench: Bench,
     pub reply: Reply,

@@ -1,5 +1,7 @@
 // The calls of a driver in C or Rust, for each a function of one of the `driver_` crates with the same promise. Each but `katan_version` and
 // `katan_cycles` returns 0 or the number of the first fault found, and a refused call leaves every lent output as it was, but for a preview's room.
+#![tactic(auto)]
+
 ghost use Rattle.std.specs.Prelude.{◌≡◌};
 ghost use Rattle.katan.specs.Lent.{status_of, lent_after};
 ghost use Rattle.lanes.specs.Many.{many_answer, many_of};

@@ -1,5 +1,7 @@
 // The calls of a driver that open a bench, and that send it a record or try one: numbers, and lent slices. Each returns 0 or document 01's number of
 // the first fault found, and a refused call leaves every lent output as it was, but for a preview's room.
+#![tactic(auto)]
+
 ghost use Rattle.std.specs.Prelude.{◌≡◌, [], ◌∷◌, length};
 ghost use Rattle.katan.specs.Lent.{status_of, lent_after};
 ghost use Rattle.bench.specs.Bench.{reply_answer};

@@ -1,5 +1,7 @@
 // The calls of a driver on one block, on many blocks, on a message, on a clock's bits and on the rate: numbers, and lent slices.
 // Each returns 0 or the number of the first fault found, and a refused call leaves every lent output as it was.
+#![tactic(auto)]
+
 ghost use Rattle.std.specs.Prelude.{◌≡◌, List, ℕ, length as length_of};
 ghost use Rattle.katan.specs.Checks.{value, checked};
 ghost use Rattle.katan.specs.Lent.{status_of, lent_after};
@@ -28,7 +30,7 @@ const VERSION: u32 = 8;
 const ORIGIN_WORDS: usize = 3;
 
 // The answer of a call that gives one word.
-#[derive(Drop)]
+#[derive(Clone, Copy)]
 enum WordAnswer {
     Given(u64),
     Refused(Refusal),
@@ -53,7 +55,7 @@ fn rate_word(answer: RateAnswer) -> WordAnswer
 }
 
 // Whether the variant and the memory lent for an answer are sound.
-#[derive(Drop)]
+#[derive(Clone, Copy)]
 enum Lent {
     Sound,
     Refused(Refusal),

@@ -1,5 +1,7 @@
 // The bench and the link as a driver holds them, in bytes. Numbers are low byte first. A bench of another length is read as zeros, a byte past
 // the end of a link counts as 0; lent memory of another length is not written to.
+#![tactic(auto)]
+
 ghost use Rattle.std.specs.Prelude.{◌≡◌, [], ◌∷◌, length};
 ghost use Rattle.katan.specs.Lent.{fitted};
 ghost use Rattle.driver_layout.specs.Layout.{key_start, lane_length, bench_length, link_length, loaded_state, position_in, loaded_in, lane_in, bench_in, link_in, read_as, loaded_bytes, lane_bytes, bench_bytes, link_bytes};

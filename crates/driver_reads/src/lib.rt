@@ -1,5 +1,7 @@
 // The calls of a driver that only read a bench: numbers, and lent slices. Each returns 0 or document 01's number of the first fault found, and a refused
 // call leaves every lent output as it was.
+#![tactic(auto)]
+
 ghost use Rattle.std.specs.Prelude.{◌≡◌, length};
 ghost use Rattle.katan.specs.Bit.{pick};
 ghost use Rattle.katan.specs.Checks.{number_of};

@@ -1,5 +1,7 @@
 // The call of a driver that runs a whole list of calls. It returns 0 or document 01's number of the first fault found, and where it is refused leaves
 // every lent output as it was.
+#![tactic(auto)]
+
 ghost use Rattle.std.specs.Prelude.{◌≡◌, length};
 ghost use Rattle.katan.specs.Lent.{status_of, lent_after};
 ghost use Rattle.bench_replay.specs.Replay.{replay_outcome};

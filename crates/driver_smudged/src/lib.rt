@@ -1,5 +1,7 @@
 // The calls of a driver on sheets with smudged bits: numbers, and lent slices. Each returns 0 or the number of the first fault found, and a refused call
 // leaves every lent output as it was.
+#![tactic(auto)]
+
 ghost use Rattle.std.specs.Prelude.{◌≡◌, ◌≤◌, length};
 ghost use Rattle.katan.specs.Checks.{position_check};
 ghost use Rattle.katan.specs.Counter.{rounds};

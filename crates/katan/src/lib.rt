@@ -1,4 +1,5 @@
 // The KATAN and KTANTAN ciphers: types, and, in specs/, their definitions.
+#![tactic(auto)]
 
 // The rounds are 0 to 253.
 pub const ROUNDS: u8 = 254;
@@ -25,7 +26,7 @@ pub const WORD_BYTES: usize = 8;
 pub const KEY_BYTES: usize = 10;
 
 // A row of the variants' table: the block's width, the registers' lengths, the taps of fa and fb, the clocks a round.
-#[derive(Drop)]
+#[derive(Clone, Copy)]
 pub struct Row {
     pub n: usize,
     pub len1: usize,
@@ -45,14 +46,14 @@ pub struct Row {
 }
 
 // L1 and L2.
-#[derive(Drop)]
+#[derive(Clone, Copy)]
 pub struct Registers {
     pub l1: u64,
     pub l2: u64,
 }
 
 // What all clocks of a round share.
-#[derive(Drop)]
+#[derive(Clone, Copy)]
 pub struct RoundInput {
     pub ir: u64,
     pub ka: u64,
@@ -60,22 +61,22 @@ pub struct RoundInput {
 }
 
 // How many rounds a block has behind it, 0 to 254.
-#[derive(Drop)]
+#[derive(Clone, Copy)]
 pub struct RoundPosition(pub u8);
 
 // How many clocks lie before a clock, from 0.
-#[derive(Drop)]
+#[derive(Clone, Copy)]
 pub struct ClockNumber(pub usize);
 
 // A key of 80 bits: bits 0 to 63, and 64 to 79.
-#[derive(Drop)]
+#[derive(Clone, Copy)]
 pub struct Key {
     pub low: u64,
     pub high: u16,
 }
 
 // Document 01's "Turned away", 1 to 13 in its order; then document 02's, from 14 on.
-#[derive(Drop)]
+#[derive(Clone, Copy)]
 pub enum Refusal {
     BadVariant,
     BadLength,
@@ -96,7 +97,7 @@ pub enum Refusal {
 }
 
 // What a call for a variant's row answers.
-#[derive(Drop)]
+#[derive(Clone, Copy)]
 pub enum RowAnswer {
     Found(Row),
     Refused(Refusal),

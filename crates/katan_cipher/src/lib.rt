@@ -1,4 +1,6 @@
 // One block: encryption and decryption.
+#![tactic(auto)]
+
 ghost use Rattle.std.specs.Prelude.{◌≡◌, ◌≤◌};
 ghost use Rattle.katan.specs.Bit.{number_in};
 ghost use Rattle.katan.specs.Counter.{rounds};

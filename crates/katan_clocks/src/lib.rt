@@ -1,5 +1,7 @@
 // Several clocks at once, forward and back. The lowest tap of a register is 3, 6 or 9 places up, so that the bits which enter in 4,
 // 6 or 9 clocks depend only on bits that are there already: one formula over words gives them all.
+#![tactic(auto)]
+
 ghost use Rattle.std.specs.Prelude.{◌≡◌, ◌<◌, ◌≤◌, ◌+◌, ◌^◌, ◌/◌};
 ghost use Rattle.katan.specs.Bit.{xor, and};
 ghost use Rattle.katan.specs.Clock.{fa as fa_of, fb as fb_of, fa_rest, fb_rest, round as round_of, unround as unround_of};

@@ -1,5 +1,7 @@
 // The key bits of the rounds: KATAN's window of 80 key bits, which moves along with the rounds, and KTANTAN's key, from which
 // every round picks.
+#![tactic(auto)]
+
 ghost use Rattle.std.specs.Prelude.{◌≡◌, ◌≤◌};
 ghost use Rattle.katan.specs.Bit.{bit};
 ghost use Rattle.katan.specs.Key.{key_number, key_bits};
@@ -11,7 +13,7 @@ use katan::{Key, RoundPosition};
 
 // What a round finds its key bits in, a KATAN's window or a KTANTAN's key: bits 0 to 63, and 64 to 79. Both are words: the
 // empty bytes of an uneven struct would be copied in each round.
-#[derive(Drop)]
+#[derive(Clone, Copy)]
 pub struct Window {
     pub low: u64,
     pub high: u64,

@@ -1,4 +1,6 @@
 // Numbers and keys in bytes, low byte first; words copied; bits of words; whether a number fits n bits; a block and its two registers.
+#![tactic(auto)]
+
 ghost use Rattle.std.specs.Prelude.{◌≡◌, ◌%◌, ◌^◌, ◌<◌, length, take, nat_le, slice_index};
 ghost use Rattle.katan.specs.Bit.{bit, number_in, bytes_of};
 ghost use Rattle.katan.specs.Clock.{block, registers};

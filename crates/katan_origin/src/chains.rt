@@ -10,14 +10,14 @@ ghost use Rattle.katan_origin.specs.Origin.{last_clock};
 use katan::{ClockNumber, Key, RoundInput, RoundPosition, Row};
 
 // A bit, and how many block bits were looked up for it.
-#[derive(Drop)]
+#[derive(Clone, Copy)]
 pub struct Traced {
     pub bit: u64,
     pub count: u64,
 }
 
 // The run of clocks that bits are followed back through: its variant, the row and the key, and the block at position 0.
-#[derive(Drop)]
+#[derive(Clone, Copy)]
 pub struct Run {
     pub variant: u8,
     pub row: Row,

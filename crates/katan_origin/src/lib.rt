@@ -1,4 +1,6 @@
 // Where did this bit come from: fa and fb of one of the first clocks, followed back to the block.
+#![tactic(auto)]
+
 ghost use Rattle.std.specs.Prelude.{◌≡◌, ◌≤◌};
 ghost use Rattle.katan.specs.Key.{key_number};
 ghost use Rattle.katan.specs.Variant.{row_of};
@@ -10,7 +12,7 @@ use katan::{ClockNumber, KEY_BYTES, Refusal, RowAnswer};
 mod chains;
 
 // fa and fb of a clock, and how many block bits were looked up for both.
-#[derive(Drop)]
+#[derive(Clone, Copy)]
 pub struct ClockBits {
     pub fa: u64,
     pub fb: u64,
@@ -18,7 +20,7 @@ pub struct ClockBits {
 }
 
 // What a call answers: the two bits, or the first fault found.
-#[derive(Drop)]
+#[derive(Clone, Copy)]
 pub enum OriginAnswer {
     Found(ClockBits),
     Refused(Refusal),

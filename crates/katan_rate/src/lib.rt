@@ -1,4 +1,6 @@
 // The rate sheet: cycles of a number of blocks, and the bit rate of a variant.
+#![tactic(auto)]
+
 ghost use Rattle.std.specs.Prelude.{◌≡◌};
 ghost use Rattle.katan_rate.specs.Rate.{cycles_of, rate_outcome, rate_answer};
 
@@ -10,7 +12,7 @@ const BLOCK_CYCLES: u64 = katan::ROUNDS as u64 + 1;
 // The highest clock rate, in hertz.
 const HIGHEST_RATE: u64 = 2940000000;
 
-#[derive(Drop)]
+#[derive(Clone, Copy)]
 pub enum RateAnswer {
     BitsPerSecond(u64),
     Refused(Refusal),

@@ -1,4 +1,6 @@
 // The registers of one block, from one position to another; and what a round takes.
+#![tactic(auto)]
+
 ghost use Rattle.std.specs.Prelude.{◌≡◌, ◌<◌, ◌≤◌, ◌^◌};
 ghost use Rattle.katan.specs.Counter.{rounds};
 ghost use Rattle.katan.specs.Key.{key_number};
@@ -15,7 +17,7 @@ mod inputs;
 mod rounds;
 
 // What a call answers: a block, or the first fault found.
-#[derive(Drop)]
+#[derive(Clone, Copy)]
 pub enum Answer {
     Block(u64),
     Refused(Refusal),

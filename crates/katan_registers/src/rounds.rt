@@ -13,7 +13,7 @@ use katan::{Key, Registers, RoundPosition, Row};
 use katan_keys::Window;
 
 // The registers at a position, and its source: what the rounds find their key bits in, a KATAN's window or a KTANTAN's key.
-#[derive(Drop)]
+#[derive(Clone, Copy)]
 struct Running {
     registers: Registers,
     source: Window,

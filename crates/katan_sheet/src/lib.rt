@@ -1,5 +1,7 @@
 // A sheet: for a block and its key, the bits known as 1 and the bits known as 0. Its checks, and what two sheets know together. In specs/
 // also what rounds make of bits of which some are unknown.
+#![tactic(auto)]
+
 ghost use Rattle.std.specs.Prelude.{◌≡◌, ◌||◌, ◌^◌, leb};
 ghost use Rattle.katan.specs.Bit.{or};
 ghost use Rattle.katan.specs.Key.{key_number};
@@ -9,35 +11,35 @@ ghost use Rattle.katan_sheet.specs.Answers.{key_in, key_known, key_parts_check, 
 use katan::{KEY_BYTES, Key, Refusal, RowAnswer};
 
 // Bits of which some are unknown: those known as 1, and those known as 0.
-#[derive(Drop)]
+#[derive(Clone, Copy)]
 pub struct KnownBits {
     pub ones: u64,
     pub zeros: u64,
 }
 
 // The same of a key.
-#[derive(Drop)]
+#[derive(Clone, Copy)]
 pub struct KnownKey {
     pub ones: Key,
     pub zeros: Key,
 }
 
 // What is known of a block at position 0, and of its key.
-#[derive(Drop)]
+#[derive(Clone, Copy)]
 pub struct Sheet {
     pub block: KnownBits,
     pub key: KnownKey,
 }
 
 // What a run answers: the bits known at a position, or the first fault found.
-#[derive(Drop)]
+#[derive(Clone, Copy)]
 pub enum SmudgedAnswer {
     Known(KnownBits),
     Refused(Refusal),
 }
 
 // What a join answers: what either of two sheets knows, or the first fault found.
-#[derive(Drop)]
+#[derive(Clone, Copy)]
 pub enum JoinAnswer {
     Joined(Sheet),
     Refused(Refusal),

@@ -1,4 +1,6 @@
 // Blocks with smudged bits: rounds on bits of which some are unknown.
+#![tactic(auto)]
+
 ghost use Rattle.std.specs.Prelude.{◌≡◌};
 ghost use Rattle.katan_sheet.specs.Answers.{smudged_outcome, smudged_answer};
 

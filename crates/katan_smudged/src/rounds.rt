@@ -14,7 +14,7 @@ use katan::{Registers, RoundPosition, Row};
 use katan_sheet::{KnownBits, KnownKey};
 
 // The registers at a position, and its source.
-#[derive(Drop)]
+#[derive(Clone, Copy)]
 struct Running {
     registers: KnownRegisters,
     source: KnownSource,

@@ -11,21 +11,21 @@ use katan_keys::Window;
 use katan_sheet::KnownBits;
 
 // A sum of bits: it is known where each of its terms is, and its value counts only there.
-#[derive(Drop)]
+#[derive(Clone, Copy)]
 struct Sum {
     known: u64,
     value: u64,
 }
 
 // L1 and L2.
-#[derive(Drop)]
+#[derive(Clone, Copy)]
 pub struct KnownRegisters {
     pub l1: KnownBits,
     pub l2: KnownBits,
 }
 
 // What all clocks of a round share: the lowest bit of each.
-#[derive(Drop)]
+#[derive(Clone, Copy)]
 pub struct KnownInput {
     pub ir: KnownBits,
     pub ka: KnownBits,
@@ -33,7 +33,7 @@ pub struct KnownInput {
 }
 
 // What a round finds its key bits in, a KATAN's window or a KTANTAN's key: those known as 1, and those known as 0.
-#[derive(Drop)]
+#[derive(Clone, Copy)]
 pub struct KnownSource {
     pub ones: Window,
     pub zeros: Window,

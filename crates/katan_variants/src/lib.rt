@@ -1,4 +1,6 @@
 // The variants' rows and tables, check 1 of a variant number, and the numbers of the refusals.
+#![tactic(auto)]
+
 ghost use Rattle.std.specs.Prelude.{◌≡◌, ◌*◌};
 ghost use Rattle.katan.specs.Bit.{tabulate};
 ghost use Rattle.katan.specs.Counter.{counter, rounds};

@@ -1,4 +1,6 @@
 // Many blocks at once, each with its own key. The work is bit-sliced: bit j of each word belongs to lane j, which holds block j.
+#![tactic(auto)]
+
 ghost use Rattle.std.specs.Prelude.{◌≡◌, ℕ, ◌*◌, ◌^◌, ◌<◌, ◌≤◌, leb, get_or, length, take};
 ghost use Rattle.katan.specs.Variant.{row_of, width_of};
 ghost use Rattle.katan.specs.Sizes.{word_bits, key_bytes};
@@ -12,14 +14,14 @@ use katan::{KEY_BYTES, LANES, ROUND_KEYS, Refusal, RowAnswer, WORD_BITS};
 
 mod keys;
 
-#[derive(Drop)]
+#[derive(Clone, Copy)]
 pub enum Direction {
     Encrypt,
     Decrypt,
 }
 
 // What a call answers: that the output is written, or the first fault found.
-#[derive(Drop)]
+#[derive(Clone, Copy)]
 pub enum Answer {
     Done,
     Refused(Refusal),

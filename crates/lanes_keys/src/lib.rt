@@ -1,4 +1,6 @@
 // The key words of all rounds: bit j of each word belongs to lane j, which has its own key. Bit j of key word i is bit i of that key.
+#![tactic(auto)]
+
 ghost use Rattle.std.specs.Prelude.{◌≡◌, ℕ, ◌*◌, ◌≤◌, get_or, length};
 ghost use Rattle.katan.specs.Counter.{rounds};
 ghost use Rattle.katan.specs.Key.{key_length, key_bit_number};

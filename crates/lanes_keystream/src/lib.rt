@@ -1,4 +1,6 @@
 // A keystream: counter mode, 64 blocks at a time through the lanes, with one key.
+#![tactic(auto)]
+
 ghost use Rattle.std.specs.Prelude.{◌≡◌, ◌+◌, ◌-◌, ◌/◌, ◌^◌, ◌≤◌, ltb};
 ghost use Rattle.katan.specs.Sizes.{word_bits, word_bytes};
 ghost use Rattle.lanes.specs.Many.{many_outcome};

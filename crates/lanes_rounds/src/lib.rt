@@ -1,4 +1,6 @@
 // All rounds of the lanes of a word at once: bit j of each word belongs to lane j, and word i has bit i of each lane's block.
+#![tactic(auto)]
+
 ghost use Rattle.std.specs.Prelude.{◌≡◌, ℕ, ◌+◌, ◌-◌, ◌*◌, ◌<◌, ◌≤◌, get_or, length};
 ghost use Rattle.katan.specs.Counter.{rounds};
 ghost use Rattle.katan.specs.inner.Within.{Sound};

@@ -1,4 +1,6 @@
 // The transpose of a square matrix of bits, a word a row.
+#![tactic(auto)]
+
 ghost use Rattle.std.specs.Prelude.{◌≡◌, ◌<◌};
 ghost use Rattle.katan.specs.Sizes.{word_bits};
 ghost use Rattle.lanes_transpose.specs.Matrix.{transposed};

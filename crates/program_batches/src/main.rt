@@ -1,5 +1,7 @@
 // Works random batches of every length, both ways, for each variant, and compares each result with a call for its block alone;
 // then calls that are refused. A line for each batch and call, with all outputs in one number.
+#![tactic(auto)]
+
 ghost use Rattle.std.specs.Prelude.{◌*◌, ◌<◌, ◌≤◌, length};
 
 use katan_registers::Answer;

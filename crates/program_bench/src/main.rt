@@ -1,5 +1,7 @@
 // The bench program: reads a script from standard input and prints one line for each of its lines.
 // What cannot be read or written is said on standard error.
+#![tactic(auto)]
+
 ghost use Rattle.std.specs.Prelude.{◌≡◌, ◌≤◌, length};
 ghost use Rattle.script.specs.Pieces.{on_bytes, all_taken, answered_as, written_to, piece_length, output_length};
 
@@ -7,7 +9,7 @@ use libc::{STDERR_FILENO, STDIN_FILENO, STDOUT_FILENO};
 use script::{Answered, OUTPUT, PIECE, Script};
 
 // The script, and how it goes on.
-#[derive(Drop)]
+#[derive(Clone, Copy)]
 struct State {
     script: Script,
     is_input_open: bool,

@@ -13,6 +13,8 @@
 // `bench V`, to a `done NUMBER TOTAL` or `again NUMBER TOTAL`, and to r `at POSITION REGISTERS`,
 // the registers as a block. A refused call is answered by `refused K`, with K the refusal's number,
 // and a line of another form, or an a or r line before any bench, by `bad line`.
+#![tactic(auto)]
+
 ghost use Rattle.std.specs.Prelude.{◌≡◌, ◌≤◌, length};
 
 use bench::{Bench, Link, ReadAnswer, Reply};
@@ -25,20 +27,20 @@ use libc::{STDIN_FILENO, STDOUT_FILENO};
 const MOST_BYTES: usize = 80;
 
 // A field of a line: its bytes are those from start up to end.
-#[derive(Drop)]
+#[derive(Clone, Copy)]
 struct Field {
     start: usize,
     end: usize,
 }
 
-#[derive(Drop)]
+#[derive(Clone, Copy)]
 struct Number {
     is_valid: bool,
     value: u64,
 }
 
 // The bytes that `digits` hexadecimal digits make.
-#[derive(Drop)]
+#[derive(Clone, Copy)]
 struct Bytes {
     is_valid: bool,
     bytes: [u8; MOST_BYTES],
@@ -46,14 +48,14 @@ struct Bytes {
 }
 
 // The bench and link that the next call meets, once one is open.
-#[derive(Drop)]
+#[derive(Clone, Copy)]
 struct Session {
     is_open: bool,
     bench: Bench,
     link: Link,
 }
 
-#[derive(Drop)]
+#[derive(Clone, Copy)]
 enum Outcome {
     Answered(Answer),
     Opened(u8),
@@ -64,7 +66,7 @@ enum Outcome {
 }
 
 // What a line leaves, and answers.
-#[derive(Drop)]
+#[derive(Clone, Copy)]
 struct Turn {
     session: Session,
     outcome: Outcome,

@@ -1,4 +1,6 @@
 // The script: its lines, over an input that comes in pieces.
+#![tactic(auto)]
+
 ghost use Rattle.std.specs.Prelude.{◌≡◌, ◌+◌, ◌≤◌, min, length};
 ghost use Rattle.std.proofs.Math.Seq.{paste};
 ghost use Rattle.script_answers.specs.Printed.{printed_as, room};
@@ -23,21 +25,21 @@ pub const PIECE: usize = 4096;
 pub const OUTPUT: usize = PIECE * ROOM;
 
 // What has come of a line that has begun.
-#[derive(Drop)]
+#[derive(Clone, Copy)]
 pub struct Pending {
     pub bytes: [u8; PENDING],
     pub length: usize,
 }
 
 // The session, and the line that has begun.
-#[derive(Drop)]
+#[derive(Clone, Copy)]
 pub struct Script {
     pub session: Session,
     pub pending: Pending,
 }
 
 // What a call leaves: the script, how many bytes of the piece it took, and how many it printed.
-#[derive(Drop)]
+#[derive(Clone, Copy)]
 pub struct Answered {
     pub script: Script,
     pub used: usize,
@@ -46,7 +48,7 @@ pub struct Answered {
 
 // A line taken from a piece, and what it prints; or, where no line ends or what it prints has no
 // space, a line that goes on to `used`.
-#[derive(Drop)]
+#[derive(Clone, Copy)]
 struct Step {
     script: Script,
     used: usize,

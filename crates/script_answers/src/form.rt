@@ -5,7 +5,7 @@ ghost use Rattle.script_form.specs.Form.{piece_of, fill};
 ghost use Rattle.script_answers.specs.inner.Pieces.{text_of, values_taken, Shapes, put_at};
 
 // How a byte of a form is written: as itself, or a value's lowest digits in a base.
-#[derive(Drop)]
+#[derive(Clone, Copy)]
 pub enum Shape {
     Letter,
     Digits { base: u64, count: usize },
@@ -82,7 +82,7 @@ fn shape_of(p: u8, v: u64, digits: usize) -> Shape
 }
 
 // The place after a byte of a form, and how many values it took.
-#[derive(Drop)]
+#[derive(Clone, Copy)]
 pub struct Put {
     pub at: usize,
     pub taken: usize,

@@ -1,4 +1,6 @@
 // The line that each answer prints.
+#![tactic(auto)]
+
 ghost use Rattle.std.specs.Prelude.{◌≡◌, [], ◌≤◌, length, replicate};
 ghost use Rattle.katan.specs.Checks.{number_of, refused};
 ghost use Rattle.bench.specs.Bench.{reply_answer, reading_answer};
@@ -15,7 +17,7 @@ mod form;
 pub const ROOM: usize = 64;
 
 // A printed line with its line feed; zeros after it.
-#[derive(Drop)]
+#[derive(Clone, Copy)]
 pub struct Printed {
     pub bytes: [u8; ROOM],
     pub length: usize,

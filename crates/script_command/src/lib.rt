@@ -1,4 +1,6 @@
 // The commands of a script, the line that each is written as, and the reader that takes a line for its command.
+#![tactic(auto)]
+
 ghost use Rattle.std.specs.Prelude.{◌≡◌};
 ghost use Rattle.script_command.specs.Answer.{line_outcome, command_answer};
 
@@ -12,7 +14,7 @@ mod reader;
 pub const LINE_LENGTH: usize = 120;
 
 // A bench line, a read line, or one of the four record lines.
-#[derive(Drop)]
+#[derive(Clone, Copy)]
 pub enum Command {
     Bench {
         variant: u8,
@@ -44,7 +46,7 @@ pub enum Command {
 }
 
 // What a line is taken for.
-#[derive(Drop)]
+#[derive(Clone, Copy)]
 pub enum Line {
     Taken(Command),
     Broken,

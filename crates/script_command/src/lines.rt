@@ -7,7 +7,7 @@ use katan::{Key, RowAnswer};
 use katan_numbers::byte_at;
 use script_form::{fields_at, whole_at};
 
-#[derive(Drop)]
+#[derive(Clone, Copy)]
 pub enum Kind {
     Bench,
     Read,
@@ -19,7 +19,7 @@ pub enum Kind {
 }
 
 // What a line opens with: its kind, a record's number, and the offset that is read next.
-#[derive(Drop)]
+#[derive(Clone, Copy)]
 pub struct Opening {
     pub kind: Kind,
     pub number: u32,

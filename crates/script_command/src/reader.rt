@@ -5,7 +5,7 @@ ghost use Rattle.script_command.specs.scanner.Reading.{opening_in, command_of};
 use crate::Line;
 use crate::lines::{Opening, command_at, opening_at};
 
-#[derive(Drop)]
+#[derive(Clone, Copy)]
 pub struct Reader<'a> {
     pub line: &'a [u8],
     pub offset: usize,

@@ -1,4 +1,6 @@
 // Forms: how numbers are written in a line and how a form with marks is filled (specs/), and a form read from an offset of a line on.
+#![tactic(auto)]
+
 ghost use Rattle.std.specs.Prelude.{◌≡◌, ◌≤◌};
 ghost use Rattle.script_form.specs.Form.{block_digits};
 ghost use Rattle.script_form.specs.scanner.Scan.{push, begin, advance, scan, whole};
@@ -19,7 +21,7 @@ pub fn block_digits(variant: u8) -> usize
 pub const WORDS: usize = 8;
 
 // The values of a form's fields from left to right: a word each, a key two, the upper first.
-#[derive(Drop)]
+#[derive(Clone, Copy)]
 pub struct Values {
     pub words: [u64; WORDS],
     pub count: usize,
@@ -42,7 +44,7 @@ fn pushed(values: Values, word: u64) -> Values
 }
 
 // What a form has found so far, and the offset that is read next.
-#[derive(Drop)]
+#[derive(Clone, Copy)]
 pub struct Fields {
     pub ok: bool,
     pub values: Values,

@@ -6,7 +6,7 @@ ghost use Rattle.script_form.specs.scanner.Scan.{decimal_in, digits_in, letter_i
 use crate::digits::run_at;
 
 // What a piece of a form finds: nothing of its kind, its own byte, or a value (a key's two words) and how many bytes it takes.
-#[derive(Drop)]
+#[derive(Clone, Copy)]
 pub enum Step {
     Wrong,
     Letter,

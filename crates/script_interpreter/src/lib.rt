@@ -1,4 +1,6 @@
 // The interpreter: a line's command on the open bench, and the line that it prints.
+#![tactic(auto)]
+
 ghost use Rattle.std.specs.Prelude.{◌≡◌};
 ghost use Rattle.bench.specs.Calls.{reading};
 ghost use Rattle.script_interpreter.specs.Interpreter.{opens, calls, sends, obeys};
@@ -15,7 +17,7 @@ use script_command::{Command, Line};
 mod records;
 
 // Whether a bench is open, and the bench and link.
-#[derive(Drop)]
+#[derive(Clone, Copy)]
 pub struct Session {
     pub is_open: bool,
     pub bench: Bench,
@@ -23,7 +25,7 @@ pub struct Session {
 }
 
 // What a line leaves, and prints.
-#[derive(Drop)]
+#[derive(Clone, Copy)]
 pub struct LineResult {
     pub session: Session,
     pub printed: Printed,
