@@ -1,0 +1,5 @@
+use borrow.Author.Rules.{rules}
+use Rattle.katan_clocks.proofs.fb.Goals as goal
+
+pub returns : goal.returns
+returns c = cc

@@ -1,0 +1,5 @@
+use borrow.Author.Rules.{rules}
+use Rattle.katan_keys.proofs.slide.Goals as goal
+
+pub returns : goal.returns
+returns c = c.slide_by.ensures

@@ -1,0 +1,21 @@
+use Prim.Native.Nat.{◌/◌, ◌%◌, ◌^◌, ◌<◌}
+use native.Mathlib.Omega.{arith}
+use Rattle.katan.specs.Key.{key_length, key_number}
+use Rattle.katan.proofs.Bits.{joined_lt}
+use Rattle.katan_keys.proofs.Running.{way}
+use Rattle.katan_keys.proofs.Sources.{of_katan, of_ktantan}
+use borrow.Author.Rules.{rules}
+use Rattle.katan_keys.proofs.source_at.Goals as goal
+
+pub returns-then-is_katan : goal.returns-then-is_katan
+returns-then-is_katan c =
+    let a = c.args in
+    let key = key_number a.key in
+    let p = a.at.0 in
+    let fits : key < 2 ^ key_length = joined_lt 64 a.key.high (search rules) 16 (search rules) in
+    of_katan a.variant c.is_katan.ensures _ _ c.if-is_katan.true
+    (way (p / 6) (p % 6) key _ _ _ fits c.key_words-first.ensures c.steps.ensures c.steps-then-is_katan.ensures (omega arith) p (omega arith))
+
+pub returns : goal.returns
+returns c =
+    of_ktantan c.args.variant c.is_katan.ensures _ _ c.if-is_katan.false c.key_words-first.ensures
