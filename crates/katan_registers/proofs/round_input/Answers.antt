@@ -1,0 +1,26 @@
+use mathlib.Core.Path.{◌≡◌, ◌∙◌}
+use Prim.Native.Nat.{◌<◌}
+use borrow.Author.Tests.{lt-ltb, le-ltb}
+use Rattle.katan.specs.Counter.{rounds}
+use Rattle.katan.specs.Key.{key_number}
+use Rattle.katan_keys.specs.Window.{window_number}
+use Rattle.katan_registers.specs.inner.Tables.{table_input}
+use Rattle.katan_registers.proofs.Laws.{table-input}
+use borrow.Author.Rules.{rules}
+use Rattle.katan_registers.proofs.round_input.Goals as goal
+
+pub returns-then-r-ge-ROUND_COUNT : goal.returns-then-r-ge-ROUND_COUNT
+returns-then-r-ge-ROUND_COUNT c = rw (le-ltb c.args.at.0 rounds c.if-r-ge-ROUND_COUNT.true)
+
+pub returns : goal.returns
+returns c =
+    let a = c.args in
+    let v = a.variant in
+    let key = key_number a.key in
+    let r = a.at.0 in
+    let early : r < rounds = c.if-r-ge-ROUND_COUNT.false in
+    let ts = c.counters-counters.result in
+    let ns = c.key_bit_numbers-numbers.result in
+    let w = window_number c.source_at-source.result in
+    let here : c.input_of.result ≡ table_input v ts ns r w = c.input_of.ensures in
+    rw (lt-ltb r rounds early) (here ∙ table-input ts ns (c.counters-counters.ensures, c.key_bit_numbers-numbers.ensures) v key r w early c.source_at-source.ensures)

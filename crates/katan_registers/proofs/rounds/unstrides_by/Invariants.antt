@@ -1,0 +1,17 @@
+use borrow.Author.Rules.{rules}
+use mathlib.Core.Path.{◌≡◌, sym, ap, subst, ◌∙◌}
+use Prim.Native.Nat.{ℕ, ◌+◌, ◌-◌, ◌*◌, ◌≤◌}
+use native.Mathlib.Nat.{zero-mul, sub_self}
+use native.Mathlib.Omega.{arith}
+use Rattle.katan.specs.Variant.{row_of}
+use Rattle.katan.specs.Stride.{stride_of}
+use Rattle.katan_registers.specs.inner.Tables.{KeyBits, MovesBack}
+use Rattle.katan_registers.proofs.Laws.{back_none, stride_less, within}
+use Rattle.katan_registers.proofs.rounds.unstrides_by.Given as goal
+
+abbrev pub invariant-loop-left : goal.invariant-loop-left
+invariant-loop-left l =
+    ((key : ℕ) → KeyBits l.variant key l.bits → MovesBack l.variant key (l.r + l.left * stride_of (row_of l.variant)) ((l.n - l.left) * stride_of (row_of l.variant)) l.initial.t l.t) × (l.left ≤ l.n)
+
+abbrev pub decreases-loop-left : goal.decreases-loop-left
+decreases-loop-left l = l.left

@@ -1,0 +1,18 @@
+use mathlib.Core.Path.{◌≡◌, sym, ap₂, ◌∙◌}
+use Prim.Native.Nat.{ℕ, ◌-◌, ◌*◌, ◌≤◌}
+use native.Mathlib.Omega.{arith}
+use borrow.Author.Rules.{rules}
+use lib.ListN.{length, length-set, get_or}
+use Rattle.katan.specs.Bit.{xor}
+use Rattle.katan.specs.Counter.{rounds}
+use Rattle.katan.specs.Key.{key_length}
+use Rattle.katan.specs.inner.Within.{Entries}
+use Rattle.lanes_keys.specs.inner.Keeps.{Keeps}
+use Rattle.katan.proofs.Fill.{filled}
+use Rattle.lanes_keys.proofs.extend.Given as goal
+
+abbrev pub invariant-loop-i : goal.invariant-loop-i
+invariant-loop-i l = (length l.words ≡ 2 * rounds) × (key_length * l.s ≤ l.i) × (l.i ≤ l.to) × ((f : ℕ → ℕ) → Entries f (key_length * l.s) l.initial.words → Keeps l.s (key_length * l.s) l.to f → Entries f l.i l.words)
+
+abbrev pub decreases-loop-i : goal.decreases-loop-i
+decreases-loop-i l = l.to - l.i

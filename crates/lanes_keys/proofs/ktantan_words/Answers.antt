@@ -1,0 +1,47 @@
+use mathlib.Core.List.{List}
+use mathlib.Core.Path.{◌≡◌, ap, ◌∙◌}
+use Prim.Native.Nat.{ℕ, ◌-◌, ◌*◌, ◌≤◌, ◌<◌}
+use native.Mathlib.Omega.{arith}
+use borrow.Author.Rules.{rules}
+use lib.ListN.{length, length-set, get_or}
+use Rattle.katan.specs.Bit.{tabulate}
+use Rattle.katan.specs.Counter.{rounds}
+use Rattle.katan.specs.Key.{key_length, key_bit_number}
+use Rattle.katan.proofs.Tables.{entry, number_below}
+use Rattle.katan.specs.inner.Within.{Entries}
+use Rattle.katan.proofs.Fill.{filled}
+use Rattle.lanes_keys.proofs.ktantan_words.Goals as goal
+
+number_at : (xs : List ℕ) → xs ≡ tabulate key_bit_number 0 (2 * rounds) → (i : ℕ) → i < 2 * rounds → get_or xs i 0 ≡ key_bit_number i
+number_at xs e i q = ap (λ (l : List ℕ). get_or l i 0) e ∙ entry key_bit_number (2 * rounds) i 0 q
+
+pub loop-i-init : goal.loop-i-init
+loop-i-init c = (search rules, omega arith, λ j q. absurd (omega arith))
+
+picked_below : (c : tie.After-index-of invariant-loop decreases-loop) → c.index_of.result < key_length
+picked_below c =
+    let i = c.before.before.loop.i in
+    let k = c.before.before.before.key-bit-numbers in
+    let q : i < 2 * rounds = omega arith in
+    rw (c.index_of.ensures ∙ number_at k.result k.ensures i q) (number_below i q)
+
+pub offset_bounds-key-index_of : goal.offset_bounds-key-index_of
+offset_bounds-key-index_of c = omega (arith, picked_below c)
+
+pub bounds-key-index_of : goal.bounds-key-index_of
+bounds-key-index_of c = omega (arith, picked_below c)
+
+pub loop-i-preserved : goal.loop-i-preserved
+loop-i-preserved c =
+    let l = c.loop-i in
+    let key = c.args.t1 in (
+      length-set l.words l.i _ ∙ l.invariant.0,
+      omega arith,
+      filled (λ j. get_or key (get_or c.key_bit_numbers-numbers.result j 0) 0) l.words l.i _ (omega arith) l.invariant.2 (ap (λ (n : ℕ). get_or key n 0) c.index_of.ensures),
+    )
+
+pub returns : goal.returns
+returns c = λ j q.
+    let k = c.key_bit_numbers-numbers in
+    let key = c.args.t1 in
+    c.loop-i.invariant.2 j (omega arith) ∙ ap (λ (n : ℕ). get_or key n 0) (number_at k.result k.ensures j q)

@@ -1,0 +1,19 @@
+use mathlib.Core.List.{List}
+use mathlib.Core.Path.{◌≡◌, ap, ◌∙◌}
+use Prim.Native.Nat.{ℕ, ◌-◌, ◌*◌, ◌≤◌, ◌<◌}
+use native.Mathlib.Omega.{arith}
+use borrow.Author.Rules.{rules}
+use lib.ListN.{length, length-set, get_or}
+use Rattle.katan.specs.Bit.{tabulate}
+use Rattle.katan.specs.Counter.{rounds}
+use Rattle.katan.specs.Key.{key_length, key_bit_number}
+use Rattle.katan.proofs.Tables.{entry, number_below}
+use Rattle.katan.specs.inner.Within.{Entries}
+use Rattle.katan.proofs.Fill.{filled}
+use Rattle.lanes_keys.proofs.ktantan_words.Given as goal
+
+abbrev pub invariant-loop-i : goal.invariant-loop-i
+invariant-loop-i l = (length l.words ≡ 2 * rounds) × (l.i ≤ 2 * rounds) × Entries (λ j. get_or l.key (get_or l.numbers j 0) 0) l.i l.words
+
+abbrev pub decreases-loop-i : goal.decreases-loop-i
+decreases-loop-i l = 2 * rounds - l.i
