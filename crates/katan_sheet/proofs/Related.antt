@@ -25,12 +25,12 @@ module _ {A B : Type 0} {R : A → B → Type 0} where
   at_related (more x h) r zero = x
   at_related (more x h) r (suc i) = at_related h r i
 
-  take_related : {xs : List A} {ys : List B} (n : ℕ) → Lists R xs ys → Lists R (take n xs) (take n ys)
+  take_related : (n : ℕ) {xs : List A} {ys : List B} → Lists R xs ys → Lists R (take n xs) (take n ys)
   take_related zero h = none
   take_related (suc n) none = none
   take_related (suc n) (more x h) = more x (take_related n h)
 
-  drop_related : {xs : List A} {ys : List B} (n : ℕ) → Lists R xs ys → Lists R (drop n xs) (drop n ys)
+  drop_related : (n : ℕ) {xs : List A} {ys : List B} → Lists R xs ys → Lists R (drop n xs) (drop n ys)
   drop_related zero h = h
   drop_related (suc n) none = none
   drop_related (suc n) (more x h) = drop_related n h

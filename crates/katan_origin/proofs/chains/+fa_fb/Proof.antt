@@ -165,7 +165,7 @@ fa-returns : (t : ℕ) → fa-lts.Need-returns (fa-knows t) (fa-at t) fa.Post
 fa-returns t c =
     let d = c.before.before.before.before.before.before.before.before.before.before.before.before.before.before in
     let a = d.args in
-    c.fa-of.ensures a.run.row (l1_at a.run a.clock) (
+    c.fa_of.ensures a.run.row (l1_at a.run a.clock) (
       fa-x1 t c.before.before.before.before.before.before.before.before.before.before.before,
       fa-x2 t c.before.before.before.before.before.before.before.before.before,
       fa-x3 t c.before.before.before.before.before.before.before,
@@ -309,7 +309,7 @@ fb-returns : (t : ℕ) → fb-lts.Need-returns (fb-knows t) (fb-at t) fb.Post
 fb-returns t c =
     let d = c.before.before.before.before.before.before.before.before.before.before.before.before.before.before.before.before in
     let a = d.args in
-    c.fb-of.ensures a.run.row (l2_at a.run a.clock) (
+    c.fb_of.ensures a.run.row (l2_at a.run a.clock) (
       fb-y1 t c.before.before.before.before.before.before.before.before.before.before.before.before.before,
       fb-y2 t c.before.before.before.before.before.before.before.before.before.before.before,
       fb-y3 t c.before.before.before.before.before.before.before.before.before,

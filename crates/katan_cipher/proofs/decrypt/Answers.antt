@@ -1,0 +1,7 @@
+use Rattle.katan.specs.Machine.{decryption}
+use borrow.Author.Rules.{rules}
+use Rattle.katan_cipher.proofs.decrypt.Goals as goal
+
+pub returns : goal.returns
+unfolding decryption
+returns c = c.block_at.ensures

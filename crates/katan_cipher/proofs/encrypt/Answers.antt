@@ -1,0 +1,7 @@
+use Rattle.katan.specs.Machine.{encryption}
+use borrow.Author.Rules.{rules}
+use Rattle.katan_cipher.proofs.encrypt.Goals as goal
+
+pub returns : goal.returns
+unfolding encryption
+returns c = c.block_at.ensures

@@ -1,0 +1,19 @@
+use mathlib.Core.Path.{ap₂}
+use Prim.Native.Nat.{◌+◌}
+use Rattle.katan.specs.Key.{key_number}
+use Rattle.katan_origin.specs.declared.ClockBits.{ClockBits}
+use Rattle.katan_origin.specs.declared.chains.Traced.{Traced}
+use Rattle.katan_origin.proofs.Places.{room_for_both}
+use borrow.Author.Rules.{rules}
+use Rattle.katan_origin.proofs.both_bits.Goals as goal
+
+pub overflow_add-result : goal.overflow_add-result
+overflow_add-result c =
+    let s = c.args.run in
+    record { fits = rw (c.fa-a.ensures, c.fb-b.ensures) (room_for_both s.variant (key_number s.key) s.block c.args.clock.0 c.requires.1) }
+
+abbrev together : Traced → Traced → ClockBits
+together a b = record { fa = a.bit; fb = b.bit; looked_up = a.count + b.count }
+
+pub returns : goal.returns
+returns c = ap₂ together c.fa-a.ensures c.fb-b.ensures
