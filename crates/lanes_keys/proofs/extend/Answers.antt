@@ -33,4 +33,4 @@ loop-i-preserved c =
 pub returns : goal.returns
 returns c =
     let l = c.loop-i in
-    (l.invariant.0, λ f h k j q. l.invariant.3 f h k j (omega arith))
+    record { words_len = l.invariant.0; by_index = λ f h k j q. l.invariant.3 f h k j (omega arith) }

@@ -15,7 +15,7 @@ loop-i-init c = (search rules, omega arith, λ j q. absurd (omega arith))
 pub loop-i-preserved : goal.loop-i-preserved
 loop-i-preserved c =
     let l = c.loop-i in
-    let key = c.args.t1 in
+    let key = c.args.key in
     (length-set l.first l.i _ ∙ l.invariant.0, omega arith, filled (λ j. get_or key j 0) l.first l.i (get_or key l.i 0) (omega arith) l.invariant.2 refl)
 
 pub returns : goal.returns

@@ -14,6 +14,6 @@ returns c =
     let key = c.args.key in
     let n : length key ≡ key_length = search rules in
     let first = c.first_words-words in
-    c.extend-2.ensures.1 (k_word key)
-    (c.type_inv.words.ensures.1 (k_word key) (λ i p. first.ensures i p ∙ sym (k_word_low key n i p)) (λ i p q. k_word_next key n i p))
+    c.extend-2.ensures.by_index (k_word key)
+    (c.extend.ensures.by_index (k_word key) (λ i p. first.ensures i p ∙ sym (k_word_low key n i p)) (λ i p q. k_word_next key n i p))
     (doubled (k_word key) (2 * rounds) (λ i p q. k_word_next key n i p))

@@ -18,23 +18,19 @@ number_at xs e i q = ap (λ (l : List ℕ). get_or l i 0) e ∙ entry key_bit_nu
 pub loop-i-init : goal.loop-i-init
 loop-i-init c = (search rules, omega arith, λ j q. absurd (omega arith))
 
-picked_below : (c : tie.After-index-of invariant-loop decreases-loop) → c.index_of.result < key_length
-picked_below c =
-    let i = c.before.before.loop.i in
-    let k = c.before.before.before.key-bit-numbers in
-    let q : i < 2 * rounds = omega arith in
-    rw (c.index_of.ensures ∙ number_at k.result k.ensures i q) (number_below i q)
+picked_below : (i n : ℕ) (numbers : List ℕ) → numbers ≡ tabulate key_bit_number 0 (2 * rounds) → n ≡ get_or numbers i 0 → i < 2 * rounds → n < key_length
+picked_below i n numbers e is q = rw (is ∙ number_at numbers e i q) (number_below i q)
 
 pub offset_bounds-key-index_of : goal.offset_bounds-key-index_of
-offset_bounds-key-index_of c = omega (arith, picked_below c)
+offset_bounds-key-index_of c = omega (arith, picked_below c.loop-i.i _ _ c.key_bit_numbers-numbers.ensures c.index_of.ensures (omega arith))
 
 pub bounds-key-index_of : goal.bounds-key-index_of
-bounds-key-index_of c = omega (arith, picked_below c)
+bounds-key-index_of c = omega (arith, picked_below c.loop-i.i _ _ c.key_bit_numbers-numbers.ensures c.index_of.ensures (omega arith))
 
 pub loop-i-preserved : goal.loop-i-preserved
 loop-i-preserved c =
     let l = c.loop-i in
-    let key = c.args.t1 in (
+    let key = c.args.key in (
       length-set l.words l.i _ ∙ l.invariant.0,
       omega arith,
       filled (λ j. get_or key (get_or c.key_bit_numbers-numbers.result j 0) 0) l.words l.i _ (omega arith) l.invariant.2 (ap (λ (n : ℕ). get_or key n 0) c.index_of.ensures),
@@ -43,5 +39,5 @@ loop-i-preserved c =
 pub returns : goal.returns
 returns c = λ j q.
     let k = c.key_bit_numbers-numbers in
-    let key = c.args.t1 in
+    let key = c.args.key in
     c.loop-i.invariant.2 j (omega arith) ∙ ap (λ (n : ℕ). get_or key n 0) (number_at k.result k.ensures j q)

@@ -1,5 +1,3 @@
--- `lanes_rounds::rounds::ir_words` meets its contract: antt ticks T from round to round and finds the table's entries.
--- Assumes nothing.
 use mathlib.Core.Path.{◌≡◌, refl, ap, ◌∙◌}
 use mathlib.Core.List.{List, [], ◌∷◌}
 use Prim.Native.Nat.{ℕ, zero, suc}
@@ -8,8 +6,7 @@ use Rattle.katan.specs.Bit.{tabulate}
 use Rattle.katan.specs.Counter.{tick, counter, ir_of, rounds}
 use Rattle.katan.proofs.Tables.{entry}
 use Rattle.lanes_rounds.specs.inner.Buffers.{spread}
-use Rattle.lanes_rounds.proofs.rounds.ir_words.Statement.{statement}
-use Rattle.lanes_rounds.proofs.rounds.ir_words.Tie as tie
+use Rattle.lanes_rounds.proofs.rounds.ir_words.Goals as goal
 
 abbrev rule : ℕ → ℕ
 rule i = spread (ir_of (counter i))
@@ -23,8 +20,5 @@ words-rule : (r n : ℕ) → words (counter r) n ≡ tabulate rule r n
 words-rule r zero = refl
 words-rule r (suc n) = ap (λ (xs : List ℕ). rule r ∷ xs) (words-rule (suc r) n)
 
-returns : tie.Need-returns
+pub returns : goal.returns
 returns c = λ j q. ap (λ (xs : List ℕ). get_or xs j 0) (words-rule 0 254) ∙ entry rule 254 j 0 q
-
-pub ir-words-spec : {M : Type 1} → statement M
-ir-words-spec = tie.close (tie.spec returns)

@@ -1,0 +1,12 @@
+use mathlib.Core.Path.{refl}
+use Prim.Native.Nat.{◌-◌, ◌≤◌}
+use native.Mathlib.Omega.{arith}
+use Rattle.lanes_rounds.specs.inner.Buffers.{Turns, Forward}
+use Rattle.lanes_rounds.proofs.Histories.{forward_none, forward_then, forward_as, turn_fits, turn_less}
+use Rattle.lanes_rounds.proofs.rounds.run.Given as goal
+
+abbrev pub invariant-loop-at : goal.invariant-loop-at
+invariant-loop-at l = (l.at.0 ≤ l.count) × Turns l.turn l.at.0 l.count × Forward l.v l.irs l.keys 0 l.at.0 l.initial.a l.initial.b l.a l.b
+
+abbrev pub decreases-loop-at : goal.decreases-loop-at
+decreases-loop-at l = l.count - l.at.0

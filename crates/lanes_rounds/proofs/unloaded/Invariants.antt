@@ -1,0 +1,14 @@
+use mathlib.Core.Path.{◌≡◌, refl, ◌∙◌}
+use Prim.Native.Nat.{ℕ, ◌+◌, ◌-◌, ◌≤◌, ◌<◌}
+use native.Mathlib.Omega.{arith}
+use borrow.Author.Rules.{rules}
+use lib.ListN.{length, length-set, get_or}
+use lib.Seq.{get_or-set_other}
+use Rattle.lanes_rounds.proofs.Stores.{stored}
+use Rattle.lanes_rounds.proofs.unloaded.Given as goal
+
+abbrev pub invariant-loop-i : goal.invariant-loop-i
+invariant-loop-i l = (length l.w ≡ 64) × (l.i ≤ l.len) × ((j : ℕ) → j < l.i → get_or l.w (l.at + j) 0 ≡ get_or l.l (l.top - j) 0) × ((j : ℕ) → j < l.at → get_or l.w j 0 ≡ get_or l.initial.w j 0) × ((j : ℕ) → l.at + l.len ≤ j → get_or l.w j 0 ≡ get_or l.initial.w j 0)
+
+abbrev pub decreases-loop-i : goal.decreases-loop-i
+decreases-loop-i l = l.len - l.i
