@@ -1,0 +1,20 @@
+use mathlib.Core.Path.{◌≡◌, sym, ap₂, ◌∙◌}
+use mathlib.Core.Bool.{true, false}
+use lib.ListN.{get_or}
+use Rattle.katan.specs.Variant.{is_katan}
+use Rattle.katan_smudged.specs.inner.Words.{input_from}
+use borrow.Author.Rules.{rules}
+use Rattle.katan_smudged.proofs.rounds.input_of.Goals as goal
+
+pub returns-then-is_katan : goal.returns-then-is_katan
+returns-then-is_katan c =
+    let a = c.args in
+    let kind : is_katan a.variant ≡ true = sym c.is_katan.ensures ∙ c.if-is_katan.true in
+    let here : c.input_from.result ≡ input_from (get_or a.counters.now a.r 0) a.w 0 1 = c.input_from.ensures in
+    rw kind here
+
+pub returns : goal.returns
+returns c =
+    let a = c.args in
+    let kind : is_katan a.variant ≡ false = sym c.is_katan.ensures ∙ c.if-is_katan.false in
+    rw kind (c.input_from-2.ensures ∙ ap₂ (input_from (get_or a.counters.now a.r 0) a.w) c.index_of-ka.ensures c.index_of-kb.ensures)

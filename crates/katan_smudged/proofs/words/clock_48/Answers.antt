@@ -1,0 +1,16 @@
+use Rattle.katan.proofs.Undo.{sound}
+use borrow.Author.Rules.{rules}
+use Rattle.katan_smudged.proofs.words.clock_48.Goals as goal
+
+pub fa_of-fa-requires : goal.fa_of-fa-requires
+fa_of-fa-requires c = rw c.row_48-row.ensures (sound 2)
+
+pub fb_of-fb-requires : goal.fb_of-fb-requires
+fb_of-fb-requires c = rw c.row_48-row.ensures (sound 2)
+
+pub entered-requires : goal.entered-requires
+entered-requires c =
+    (rw c.row_48-row.ensures (sound 2), rw c.row_48-row.ensures c.requires)
+
+pub returns : goal.returns
+returns c = cc

@@ -1,0 +1,7 @@
+use Rattle.katan_smudged.specs.inner.Words.{enter}
+use borrow.Author.Rules.{rules}
+use Rattle.katan_smudged.proofs.words.enter.Goals as goal
+
+pub returns : goal.returns
+unfolding enter
+returns c = cc

@@ -1,0 +1,7 @@
+use Rattle.katan_smudged.specs.inner.Words.{fa_words}
+use borrow.Author.Rules.{rules}
+use Rattle.katan_smudged.proofs.words.fa_of.Goals as goal
+
+pub returns : goal.returns
+unfolding fa_words
+returns c = cc

@@ -1,0 +1,7 @@
+use Rattle.katan_smudged.specs.inner.Words.{fb_words}
+use borrow.Author.Rules.{rules}
+use Rattle.katan_smudged.proofs.words.fb_of.Goals as goal
+
+pub returns : goal.returns
+unfolding fb_words
+returns c = cc c.at.ensures

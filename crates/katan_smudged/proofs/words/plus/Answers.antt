@@ -1,0 +1,7 @@
+use mathlib.Core.Path.{refl}
+use Rattle.katan_smudged.specs.inner.Words.{plus}
+use Rattle.katan_smudged.proofs.words.plus.Goals as goal
+
+pub returns : goal.returns
+unfolding plus
+returns c = refl

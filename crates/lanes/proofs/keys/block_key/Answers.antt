@@ -1,0 +1,9 @@
+use mathlib.Core.Path.{ap, ◌∙◌}
+use Rattle.katan.specs.Key.{key_number}
+use Rattle.katan.proofs.KeyNumbers.{number_of_key}
+use borrow.Author.Rules.{rules}
+use Rattle.lanes.proofs.KeyLanes.{key_part}
+use Rattle.lanes.proofs.keys.block_key.Goals as goal
+
+pub returns : goal.returns
+returns c = ap key_number c.key_of.ensures ∙ number_of_key _ ∙ key_part c.args.keys.now c.args.i

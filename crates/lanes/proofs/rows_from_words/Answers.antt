@@ -1,0 +1,13 @@
+use borrow.Author.Rules.{rules}
+use Rattle.lanes.specs.Many.{block_key}
+use Rattle.lanes.proofs.Blocks.{block_rows}
+use Rattle.lanes.proofs.rows_from_words.Goals as goal
+
+pub returns : goal.returns
+returns c =
+    let a = c.args in
+    let key = c.key_words in
+    let keys = c.round_words-round_keys in
+    let to = c.all_rounds in
+    block_rows a.direction a.variant a.n c.requires.0 (block_key a.keys.now) a.count c.requires.1 key.result keys.result a.words.now to.result c.transpose.result
+    (search (rules, key.type-inv)) key.ensures keys.ensures to.ensures c.transpose.ensures
