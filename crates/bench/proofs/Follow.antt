@@ -237,15 +237,15 @@ module _ (v : ℕ) where
     unfolding slots_as names_as step_as wrong_count
     counted_slots load e own six b =
         load_step r (record { lane = Held (loaded_by r) }) (λ m. rw e (load_holds r own (ltb-false rounds r.count six) b)) (λ i. rw e) ss ms 0 r.lane (zero-add r.lane) h
-    counted_slots forward e own six b = rw div-one at (mask_steps r (λ i. rw e) (forward_lane v r.count) (λ l m f. rw e (step_forward _ l m f)) ss ms 0 h)
-    counted_slots back e own six b = rw div-one at (mask_steps r (λ i. rw e) (back_lane v r.count) (λ l m f. rw e (step_back _ l m f)) ss ms 0 h)
+    counted_slots forward e own six b = rw div-one at (mask_steps r (λ i. rw e) (forward_lane v r.count) (λ l m f. rw e (step_forward r l m f)) ss ms 0 h)
+    counted_slots back e own six b = rw div-one at (mask_steps r (λ i. rw e) (back_lane v r.count) (λ l m f. rw e (step_back r l m f)) ss ms 0 h)
     counted_slots clear e own six b = rw div-one at (mask_steps r (λ i. rw e) (λ l. Empty) (λ l m f. rw e (step_clear r l m f)) ss ms 0 h)
     counted_slots other e own six b = unnamed r ss ms 0 (λ i le. rw e) h
 
     pub counted_total : (k : Kind) → kind r ≡ k → total_as k r ss ≡ total_of r 0 ms
     unfolding total_as names_as moved_as
     counted_total load e = sym (no_total r (λ m. rw e) ms 0)
-    counted_total forward e = rw div-one at (mask_total r (λ i. rw e) (forward_moved r.count) (λ l m f. rw e (moved_forward _ l m f)) ss ms 0 h)
-    counted_total back e = rw div-one at (mask_total r (λ i. rw e) (back_moved r.count) (λ l m f. rw e (moved_back _ l m f)) ss ms 0 h)
+    counted_total forward e = rw div-one at (mask_total r (λ i. rw e) (forward_moved r.count) (λ l m f. rw e (moved_forward r l m f)) ss ms 0 h)
+    counted_total back e = rw div-one at (mask_total r (λ i. rw e) (back_moved r.count) (λ l m f. rw e (moved_back r l m f)) ss ms 0 h)
     counted_total clear e = sym (no_total r (λ m. rw e) ms 0)
     counted_total other e = sym (no_total r (λ m. rw e) ms 0)

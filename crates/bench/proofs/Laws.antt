@@ -241,7 +241,7 @@ module _ (v : ℕ) (least : 1 ≤ v) (most : v ≤ 6) where
 
   -- ---- a lane that is loaded, and moves
 
-  -- what a lane lane_shows, from the records that counted
+  -- what a lane shows, from the records that counted
   shown_by : (calls : List Call) (i : ℕ) (ss : List (List ℕ)) → i < lane_count → counted_records v calls ≡ ss → lane_after v calls i ≡ machine_view v (made_by i ss)
   shown_by calls i ss lt e =
       let now = every_list v least most calls in

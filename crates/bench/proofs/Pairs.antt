@@ -1,7 +1,7 @@
 -- Records that meet what `EitherOrder` asks, of every two kinds and lanes.
 -- Assumes nothing.
 use mathlib.Core.Path.{◌≡◌, refl, sym, ap, ◌∙◌}
-use mathlib.Core.Bool.{Bool, true, false, ◌&&◌, and_false}
+use mathlib.Core.Bool.{Bool, true, false, ◌&&◌, and-false}
 use mathlib.Core.List.{List, [], ◌∷◌}
 use Prim.Native.Nat.{ℕ, suc, ◌+◌, ◌*◌, ◌^◌, ◌<◌, ◌≤◌}
 use native.Mathlib.Omega.{arith}
@@ -91,7 +91,7 @@ apart : (j k : Kind) → (j ≡ other → ⊥) → (k ≡ other → ⊥) → (a 
 apart j k known-j known-k a b lane-a lane-b differ i lt = go (eqb i a) refl
   where
     go : (c : Bool) → eqb i a ≡ c → (names (decode (on_lane j a)) i && names (decode (on_lane k b)) i) ≡ false
-    go true e = let same = eqb-true i a e in rw (not_named b lane-b k known-k i (λ q. differ (sym same ∙ q))) (and_false (names (decode (on_lane j a)) i))
+    go true e = let same = eqb-true i a e in rw (not_named b lane-b k known-k i (λ q. differ (sym same ∙ q))) (and-false (names (decode (on_lane j a)) i))
     go false e = rw (not_named a lane-a j known-j i (eqb-false i a e))
 
 -- ---- no more records count than there are calls

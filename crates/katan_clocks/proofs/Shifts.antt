@@ -1,10 +1,10 @@
 -- Shifted words: what the code's sums and products of them are, and that they fit.
 -- Assumes nothing.
-use mathlib.Core.Path.{◌≡◌, sym, ap, ap₂, subst, ◌∙◌}
+use mathlib.Core.Path.{◌≡◌, sym, ap, subst, ◌∙◌}
 use Prim.Native.Nat.{ℕ, ◌+◌, ◌-◌, ◌*◌, ◌/◌, ◌%◌, ◌^◌, ◌<◌, ◌≤◌}
-use native.Mathlib.Nat.{mod-lt, add-zero, lt_of_lt_of_le, mul-le-mul_right, one-mul}
+use native.Mathlib.Nat.{mod-lt, lt_of_lt_of_le, mul-le-mul_right, one-mul}
 use native.Mathlib.Omega.{arith}
-use lib.Pow.{pow_pos, pow_mono, high, low, mod-pow-add, mod-mod-pow, shl_exact, shl_lt, shr_lt}
+use lib.Pow.{pow_pos, pow_mono, low, mod-mod-pow, shl_exact, shl_lt, shr_lt}
 use Rattle.katan.proofs.Bits.{one_shifted, raised, lifted, joined_lt}
 
 module _ (l c b : ℕ) (h : c < 64) where

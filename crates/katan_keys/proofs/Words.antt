@@ -1,11 +1,11 @@
 -- A number in two words, its shifts and the low bits of its shifts.
 -- Assumes nothing.
-use mathlib.Core.Path.{◌≡◌, sym, ap, ap₂, subst, ◌∙◌}
+use mathlib.Core.Path.{◌≡◌, sym, ap, ap₂, ◌∙◌}
 use Prim.Native.Nat.{ℕ, ◌+◌, ◌-◌, ◌*◌, ◌/◌, ◌%◌, ◌^◌, ◌<◌, ◌≤◌}
-use native.Mathlib.Nat.{add_comm, add-mul, mul_assoc, mul_right_comm, mod-lt, add-sub_of_le, add-mul-div_right}
+use native.Mathlib.Nat.{add_comm, add-mul, mul_assoc, mul_right_comm, add-sub_of_le, add-mul-div_right}
 use native.Mathlib.Omega.{arith}
 use lib.Bits.{xor_mod}
-use lib.Pow.{pow_pos, pow-add, shr-shr, shl-shr, shl_lt, high, low, split, mod-mod-pow, field}
+use lib.Pow.{pow_pos, pow-add, shr-shr, shl-shr, high, low, mod-mod-pow, field}
 use Rattle.katan.specs.Bit.{xor}
 use Rattle.katan.proofs.Bits.{raised}
 

@@ -9,7 +9,7 @@ use native.Mathlib.Nat.{mod-eq_of_lt, zero-mul, zero-add, add-zero, add_assoc, s
 use native.Mathlib.Omega.{arith}
 use borrow.Author.Tests.{leb-true, leb-false}
 use lib.ListN.{get_or}
-use lib.Pow.{pow_pos, pow_mono, shl_exact}
+use lib.Pow.{pow_mono, shl_exact}
 use Rattle.katan.specs.Bit.{bit, pick, tabulate}
 use Rattle.katan.specs.Counter.{counter, ir_of, rounds}
 use Rattle.katan.specs.Variant.{row_of, is_katan, last_katan}
@@ -30,7 +30,6 @@ use Rattle.katan_keys.specs.Window.{window_number, longest_step, window_at, ahea
 use Rattle.katan_keys.proofs.Running.{running_window}
 use Rattle.katan_clocks.specs.Clocks.{lowest, clocks_by, unclocks_by}
 use Rattle.katan_clocks.specs.inner.Words.{beside, words_of}
-use Rattle.katan_clocks.proofs.Shifts.{some_ones}
 use Rattle.katan_clocks.proofs.Rounds.{inputs, same_input, rounds_by_words, unrounds_by_words}
 use Rattle.katan_registers.specs.declared.rounds.Running.{Running}
 use Rattle.katan_registers.specs.inner.Tables.{Tables, Named, KeyBits, table_input, key_bit, rounds_input, Moves, MovesBack}

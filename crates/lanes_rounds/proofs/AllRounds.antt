@@ -3,13 +3,13 @@
 use mathlib.Core.Path.{◌≡◌, refl, sym, ap, subst, ◌∙◌}
 use mathlib.Core.Bool.{Bool, true, false}
 use mathlib.Core.List.{List}
-use Prim.Native.Nat.{ℕ, ◌+◌, ◌-◌, ◌*◌, ◌/◌, ◌%◌, ◌^◌, ◌<◌, ◌≤◌}
-use native.Mathlib.Nat.{mod-lt, lt_of_lt_of_le, div-eq_of_lt, div-add-mod', mul-zero}
+use Prim.Native.Nat.{ℕ, ◌+◌, ◌-◌, ◌*◌, ◌%◌, ◌^◌, ◌<◌, ◌≤◌}
+use native.Mathlib.Nat.{lt_of_lt_of_le, div-eq_of_lt, div-add-mod', mul-zero}
 use native.Mathlib.Omega.{arith}
 use borrow.Author.Tests.{leb-true, leb-false, ne_eqb}
 use lib.Dec.{leb}
 use lib.ListN.{length, get_or}
-use lib.Pow.{pow_pos, pow_mono}
+use lib.Pow.{pow_mono}
 use Rattle.katan.specs.Bit.{bit, tabulate}
 use Rattle.katan.specs.Clock.{run, unrun, block, registers}
 use Rattle.katan.specs.Counter.{counter, ir_of, rounds}
@@ -17,12 +17,11 @@ use Rattle.katan.specs.Sizes.{word_bits}
 use Rattle.katan.specs.Variant.{row64}
 use Rattle.katan.specs.inner.Within.{Sound, Entries}
 use Rattle.katan.specs.declared.Row.{Row}
-use Rattle.katan.specs.declared.Registers.{Registers}
 use Rattle.katan.proofs.Bits.{bit-zero}
 use Rattle.katan.proofs.Positions.{registers_fit}
 use Rattle.katan.proofs.Tables.{entry, length-tabulate}
 use Rattle.katan.proofs.Undo.{unrun-run}
-use Rattle.lanes_transpose.specs.Matrix.{column, transposed}
+use Rattle.lanes_transpose.specs.Matrix.{transposed}
 use Rattle.lanes_transpose.proofs.Laws.{transposed_only}
 use Rattle.lanes_rounds.specs.Words.{width_row, lane_block, lane_input, all_rounds_run, all_rounds_undone}
 use Rattle.lanes_rounds.specs.inner.Buffers.{spread, KeptBelow, KeptFrom, Placed, Forward, Backward}

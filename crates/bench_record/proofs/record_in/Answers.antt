@@ -1,9 +1,7 @@
-use mathlib.Core.Path.{◌≡◌, refl, ◌∙◌}
-use Prim.Native.Nat.{ℕ, ◌-◌, ◌≤◌}
+use mathlib.Core.Path.{refl, ◌∙◌}
+use Prim.Native.Nat.{ℕ}
 use native.Mathlib.Omega.{arith}
-use borrow.Author.Rules.{rules}
-use lib.ListN.{length, get_or, length-set}
-use Rattle.katan.specs.inner.Within.{Entries}
+use lib.ListN.{get_or, length-set}
 use Rattle.katan.proofs.Fill.{filled, full}
 use Rattle.bench_record.specs.Fields.{record_length}
 use Rattle.bench_record.specs.Codec.{record_in}

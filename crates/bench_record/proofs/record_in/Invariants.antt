@@ -1,12 +1,8 @@
-use mathlib.Core.Path.{◌≡◌, refl, ◌∙◌}
+use mathlib.Core.Path.{◌≡◌}
 use Prim.Native.Nat.{ℕ, ◌-◌, ◌≤◌}
-use native.Mathlib.Omega.{arith}
-use borrow.Author.Rules.{rules}
-use lib.ListN.{length, get_or, length-set}
+use lib.ListN.{length, get_or}
 use Rattle.katan.specs.inner.Within.{Entries}
-use Rattle.katan.proofs.Fill.{filled, full}
 use Rattle.bench_record.specs.Fields.{record_length}
-use Rattle.bench_record.specs.Codec.{record_in}
 use Rattle.bench_record.proofs.record_in.Given as goal
 
 abbrev pub invariant-loop-i : goal.invariant-loop-i

@@ -2,7 +2,6 @@ use mathlib.Core.Path.{◌∙◌}
 use Prim.Native.Nat.{◌-◌}
 use native.Mathlib.Omega.{arith}
 use Rattle.bench_record.proofs.Parts.{part_of}
-use borrow.Author.Rules.{rules}
 use Rattle.bench_record.proofs.word_in.Goals as goal
 
 pub returns : goal.returns

@@ -12,7 +12,6 @@ use Rattle.katan.specs.Machine.{registers_at}
 use Rattle.katan.specs.Checks.{value, checked, variant_check, block_check}
 use Rattle.katan_registers.specs.Answers.{registers_answer}
 use Rattle.katan_cipher.specs.Answers.{block_answer}
-use borrow.Author.Rules.{rules}
 use Rattle.katan_cipher.proofs.block_at.Goals as goal
 
 -- with the key and the positions sound, the same checks are left

@@ -1,5 +1,4 @@
 use Rattle.katan.specs.Machine.{decryption}
-use borrow.Author.Rules.{rules}
 use Rattle.katan_cipher.proofs.decrypt.Goals as goal
 
 pub returns : goal.returns

@@ -1,5 +1,4 @@
 use Rattle.katan.specs.Machine.{encryption}
-use borrow.Author.Rules.{rules}
 use Rattle.katan_cipher.proofs.encrypt.Goals as goal
 
 pub returns : goal.returns

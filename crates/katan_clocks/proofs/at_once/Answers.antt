@@ -1,7 +1,6 @@
 use Rattle.katan_clocks.proofs.AtOnce.{forth}
 use Rattle.katan_clocks.proofs.Steps.{gone}
 use mathlib.Core.Path.{◌∙◌}
-use borrow.Author.Rules.{rules}
 use Rattle.katan_clocks.proofs.at_once.Goals as goal
 
 pub returns : goal.returns

@@ -1,7 +1,6 @@
 use lib.Pow.{pow_pos}
 use Rattle.katan.proofs.Bits.{one_shifted}
 use Rattle.katan_clocks.proofs.Shifts.{sum_fits, entered}
-use borrow.Author.Rules.{rules}
 use Rattle.katan_clocks.proofs.enter.Goals as goal
 
 pub nonzero_rem-result : goal.nonzero_rem-result

@@ -1,4 +1,3 @@
-use borrow.Author.Rules.{rules}
 use Rattle.katan_clocks.proofs.fb.Goals as goal
 
 pub returns : goal.returns

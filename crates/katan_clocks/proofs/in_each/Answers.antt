@@ -1,6 +1,5 @@
 use Rattle.katan.proofs.Bits.{one_shifted}
 use Rattle.katan_clocks.proofs.Shifts.{some_ones, bit_in_each}
-use borrow.Author.Rules.{rules}
 use Rattle.katan_clocks.proofs.in_each.Goals as goal
 
 pub overflow_sub-all : goal.overflow_sub-all

@@ -2,7 +2,6 @@ use native.Mathlib.Omega.{arith}
 use Rattle.katan.specs.Variant.{row32, row48, row64}
 use Rattle.katan.proofs.Variants.{is_row32, is_row48, is_row64}
 use Rattle.katan_clocks.proofs.Steps.{can_go, one_round}
-use borrow.Author.Rules.{rules}
 use Rattle.katan_clocks.proofs.round.Goals as goal
 
 pub at_once-requires : goal.at_once-requires

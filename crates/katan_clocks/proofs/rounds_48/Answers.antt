@@ -3,7 +3,6 @@ use native.Mathlib.Omega.{arith}
 use Rattle.katan.specs.declared.Row.{Row}
 use Rattle.katan_clocks.specs.Clocks.{clocks_by}
 use Rattle.katan_clocks.proofs.Steps.{can_go}
-use borrow.Author.Rules.{rules}
 use Rattle.katan_clocks.proofs.rounds_48.Goals as goal
 
 pub at_once-requires : goal.at_once-requires

@@ -1,7 +1,6 @@
 use Rattle.katan_clocks.proofs.AtOnce.{back}
 use Rattle.katan_clocks.proofs.Steps.{gone_back}
 use mathlib.Core.Path.{◌∙◌}
-use borrow.Author.Rules.{rules}
 use Rattle.katan_clocks.proofs.undo.Goals as goal
 
 pub returns : goal.returns

@@ -1,7 +1,6 @@
 use Rattle.katan.specs.Variant.{row32, row48, row64}
 use Rattle.katan.proofs.Variants.{is_row32, is_row48, is_row64}
 use Rattle.katan_clocks.proofs.Steps.{can_undo_round, one_unround}
-use borrow.Author.Rules.{rules}
 use Rattle.katan_clocks.proofs.unround.Goals as goal
 
 pub undo-requires : goal.undo-requires

@@ -3,7 +3,6 @@ use native.Mathlib.Omega.{arith}
 use Rattle.katan.specs.declared.Row.{Row}
 use Rattle.katan_clocks.specs.Clocks.{unclocks_by}
 use Rattle.katan_clocks.proofs.Steps.{can_go_back}
-use borrow.Author.Rules.{rules}
 use Rattle.katan_clocks.proofs.unrounds_32.Goals as goal
 
 pub undo-requires : goal.undo-requires

@@ -1,6 +1,5 @@
 use Rattle.katan.specs.Variant.{row48}
 use Rattle.katan_clocks.proofs.Steps.{can_undo_round, undone_in_three}
-use borrow.Author.Rules.{rules}
 use Rattle.katan_clocks.proofs.unrounds_48.Goals as goal
 
 pub undo-requires : goal.undo-requires

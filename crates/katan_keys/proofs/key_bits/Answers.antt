@@ -1,11 +1,9 @@
-use mathlib.Core.Path.{◌≡◌, ap, ◌∙◌}
-use Prim.Native.Nat.{◌-◌, ◌≤◌}
+use mathlib.Core.Path.{ap, ◌∙◌}
 use native.Mathlib.Omega.{arith}
 use borrow.Author.Rules.{rules}
-use lib.ListN.{length, length-set}
+use lib.ListN.{length-set}
 use Rattle.katan.specs.Bit.{bit}
 use Rattle.katan.specs.Key.{key_length, key_bits}
-use Rattle.katan.specs.inner.Within.{Entries}
 use Rattle.katan.proofs.Fill.{filled, full}
 use Rattle.katan_keys.specs.Window.{window_number}
 use Rattle.katan_keys.proofs.key_bits.Goals as goal

@@ -1,12 +1,9 @@
-use mathlib.Core.Path.{◌≡◌, ap, ◌∙◌}
+use mathlib.Core.Path.{◌≡◌}
 use Prim.Native.Nat.{◌-◌, ◌≤◌}
-use native.Mathlib.Omega.{arith}
-use borrow.Author.Rules.{rules}
-use lib.ListN.{length, length-set}
+use lib.ListN.{length}
 use Rattle.katan.specs.Bit.{bit}
-use Rattle.katan.specs.Key.{key_length, key_bits}
+use Rattle.katan.specs.Key.{key_length}
 use Rattle.katan.specs.inner.Within.{Entries}
-use Rattle.katan.proofs.Fill.{filled, full}
 use Rattle.katan_keys.specs.Window.{window_number}
 use Rattle.katan_keys.proofs.key_bits.Given as goal
 

@@ -1,6 +1,5 @@
 use mathlib.Core.Path.{refl}
 use Rattle.katan_keys.proofs.Sources.{of_katan, of_ktantan}
-use borrow.Author.Rules.{rules}
 use Rattle.katan_keys.proofs.previous_source.Goals as goal
 
 pub returns-then-is_katan : goal.returns-then-is_katan

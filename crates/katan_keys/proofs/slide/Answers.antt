@@ -1,4 +1,3 @@
-use borrow.Author.Rules.{rules}
 use Rattle.katan_keys.proofs.slide.Goals as goal
 
 pub returns : goal.returns

@@ -4,7 +4,6 @@ use native.Mathlib.Omega.{arith}
 use Rattle.katan.proofs.Variants.{strides}
 use Rattle.katan_keys.specs.Window.{window_number, behind}
 use Rattle.katan_keys.proofs.Sources.{of_katan, of_ktantan}
-use borrow.Author.Rules.{rules}
 use Rattle.katan_keys.proofs.source_behind.Goals as goal
 
 pub behind-requires : goal.behind-requires

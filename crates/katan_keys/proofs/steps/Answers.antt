@@ -1,8 +1,8 @@
 use mathlib.Core.Path.{◌≡◌, refl, ap, ◌∙◌}
-use Prim.Native.Nat.{ℕ, ◌-◌, ◌≤◌}
+use Prim.Native.Nat.{ℕ}
 use native.Mathlib.Numerals.{add-one}
 use native.Mathlib.Omega.{arith}
-use Rattle.katan_keys.specs.Window.{longest_step, window_number, ahead, times}
+use Rattle.katan_keys.specs.Window.{window_number, ahead, times}
 use Rattle.katan_keys.proofs.steps.Goals as goal
 
 pub loop-init : goal.loop-init

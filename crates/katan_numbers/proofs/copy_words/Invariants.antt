@@ -1,5 +1,4 @@
-use Rattle.std.proofs.Common.{◌≡◌, ◌-◌, ◌≤◌, length, take, sym, refl, ◌∙◌, arith, length-set, rules}
-use Rattle.katan.proofs.Copies.{next_copied, all_copied}
+use Rattle.std.proofs.Common.{◌≡◌, ◌-◌, ◌≤◌, length, take}
 use Rattle.katan_numbers.proofs.copy_words.Given as goal
 
 abbrev pub invariant-loop-at : goal.invariant-loop-at

@@ -1,4 +1,4 @@
-use Rattle.std.proofs.Common.{sym, ◌∙◌, rules}
+use Rattle.std.proofs.Common.{sym, ◌∙◌}
 use Rattle.katan.proofs.Copies.{it_fits, no_fit}
 use Rattle.katan_numbers.proofs.put_key.Goals as goal
 

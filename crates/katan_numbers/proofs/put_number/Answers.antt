@@ -1,4 +1,4 @@
-use Rattle.std.proofs.Common.{◌≡◌, ℕ, ◌-◌, ◌<◌, ◌≤◌, ◌++◌, length, take, refl, ap, ◌∙◌, append-nil, arith, length-set, take_all}
+use Rattle.std.proofs.Common.{◌≡◌, ℕ, ◌-◌, ◌<◌, ◌≤◌, length, refl, ap, ◌∙◌, append-nil, arith, length-set, take_all}
 use native.Mathlib.Nat.{sub-zero}
 use Rattle.katan.specs.Bit.{bytes_of}
 use Rattle.katan_numbers.proofs.Written.{number_on}

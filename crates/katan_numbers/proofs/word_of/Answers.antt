@@ -1,4 +1,4 @@
-use Rattle.std.proofs.Common.{arith, rules}
+use Rattle.std.proofs.Common.{arith}
 use Rattle.katan.proofs.Bytes.{number_from}
 use Rattle.katan_numbers.proofs.word_of.Goals as goal
 

@@ -8,7 +8,6 @@ use Rattle.katan.specs.declared.Row.{Row}
 use Rattle.katan.proofs.Undo.{sound}
 use Rattle.katan.proofs.Variants.{row_found, row_refused}
 use Rattle.katan_rate.specs.Rate.{block_cycles, highest_rate}
-use borrow.Author.Rules.{rules}
 use Rattle.katan_rate.proofs.bit_rate.Goals as goal
 
 pub returns-then-hertz-eq0 : goal.returns-then-hertz-eq0

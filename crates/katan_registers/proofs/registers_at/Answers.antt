@@ -6,7 +6,6 @@ use Rattle.katan.specs.Checks.{value, refused}
 use Rattle.katan.specs.Counter.{rounds}
 use Rattle.katan.specs.declared.Row.{Row}
 use Rattle.katan.proofs.Variants.{row_found, row_refused}
-use borrow.Author.Rules.{rules}
 use Rattle.katan_registers.proofs.registers_at.Goals as goal
 
 pub returns-then-from-gt-ROUNDS : goal.returns-then-from-gt-ROUNDS

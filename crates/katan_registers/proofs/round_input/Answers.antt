@@ -6,7 +6,6 @@ use Rattle.katan.specs.Key.{key_number}
 use Rattle.katan_keys.specs.Window.{window_number}
 use Rattle.katan_registers.specs.inner.Tables.{table_input}
 use Rattle.katan_registers.proofs.Laws.{table-input}
-use borrow.Author.Rules.{rules}
 use Rattle.katan_registers.proofs.round_input.Goals as goal
 
 pub returns-then-r-ge-ROUND_COUNT : goal.returns-then-r-ge-ROUND_COUNT

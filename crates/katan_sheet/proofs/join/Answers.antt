@@ -5,7 +5,6 @@ use Rattle.katan_sheet.specs.Sheet.{joined}
 use Rattle.katan_sheet.specs.Answers.{contradiction_check}
 use Rattle.katan_sheet.specs.declared.KnownBits.{KnownBits}
 use Rattle.katan_sheet.proofs.Refusals.{key-given, width_is, first_length, second_length, first_wide, second_wide, joint_clash, both_joined}
-use borrow.Author.Rules.{rules}
 use Rattle.katan_sheet.proofs.join.Goals as goal
 
 pub returns-then-bad_length : goal.returns-then-bad_length

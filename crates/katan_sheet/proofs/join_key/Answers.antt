@@ -1,6 +1,5 @@
 use mathlib.Core.Path.{ap₂}
 use Rattle.katan_sheet.proofs.Sheets.{sheet}
-use borrow.Author.Rules.{rules}
 use Rattle.katan_sheet.proofs.join_key.Goals as goal
 
 pub returns : goal.returns

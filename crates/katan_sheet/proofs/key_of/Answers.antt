@@ -1,6 +1,5 @@
 use mathlib.Core.Path.{ap₂}
 use Rattle.katan.specs.declared.Key.{Key}
-use borrow.Author.Rules.{rules}
 use Rattle.katan_sheet.proofs.key_of.Goals as goal
 
 pub returns : goal.returns

@@ -1,4 +1,3 @@
-use borrow.Author.Rules.{rules}
 use Rattle.katan_sheet.proofs.too_wide.Goals as goal
 
 pub returns-then-too_wide : goal.returns-then-too_wide

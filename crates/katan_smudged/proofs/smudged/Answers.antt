@@ -7,7 +7,6 @@ use Rattle.katan_sheet.specs.Answers.{contradiction_check}
 use Rattle.katan_sheet.specs.declared.KnownBits.{KnownBits}
 use Rattle.katan_sheet.proofs.Refusals.{key-given, width_is}
 use Rattle.katan_smudged.proofs.Refusals.{in_width, other_length, late, wide, clash, ran}
-use borrow.Author.Rules.{rules}
 use Rattle.katan_smudged.proofs.smudged.Goals as goal
 
 pub returns-then-bad_length : goal.returns-then-bad_length

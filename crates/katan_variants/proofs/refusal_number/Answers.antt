@@ -1,5 +1,4 @@
 use mathlib.Core.Path.{◌≡◌, sym, ap}
-use borrow.Author.Rules.{rules}
 use Rattle.katan.specs.declared.Refusal.{Refusal}
 use Rattle.katan.specs.Checks.{number_of}
 use Rattle.katan_variants.proofs.refusal_number.Goals as goal

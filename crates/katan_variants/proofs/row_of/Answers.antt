@@ -1,5 +1,4 @@
 use mathlib.Core.Path.{sym, ap, ◌∙◌}
-use borrow.Author.Rules.{rules}
 use Rattle.katan.specs.Checks.{value}
 use Rattle.katan.specs.Rows.{row_answer}
 use Rattle.katan.proofs.Variants.{over_six_or_none}

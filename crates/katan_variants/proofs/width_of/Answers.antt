@@ -1,7 +1,6 @@
 use mathlib.Core.Path.{ap, ◌∙◌}
 use Rattle.katan.specs.declared.Row.{Row}
 use Rattle.katan.proofs.Variants.{row_found, row_refused, first_row}
-use borrow.Author.Rules.{rules}
 use Rattle.katan_variants.proofs.width_of.Goals as goal
 
 pub returns-in-Found : goal.returns-in-Found

@@ -1,4 +1,3 @@
-use borrow.Author.Rules.{rules}
 use Rattle.lanes.proofs.all_rounds.Goals as goal
 
 pub returns-in-Encrypt : goal.returns-in-Encrypt

@@ -1,16 +1,8 @@
-use mathlib.Core.List.{List, ◌∷◌}
-use mathlib.Core.Path.{◌≡◌, refl, sym, ap, ◌∙◌}
-use mathlib.Core.Bool.{Bool, true, false}
-use Prim.Native.Nat.{ℕ, ◌+◌, ◌-◌, ◌≤◌, ◌<◌, ◌^◌}
-use native.Mathlib.Numerals.{add-one}
-use native.Mathlib.Omega.{arith}
-use borrow.Author.Rules.{rules}
-use borrow.Author.Tests.{leb-true, leb-false, le-leb, lt-leb}
-use lib.Bits.{bit_or, or_add_and, or_lt, and_le_l, and_le_r}
+use mathlib.Core.Path.{◌≡◌}
+use mathlib.Core.Bool.{true}
+use Prim.Native.Nat.{◌-◌, ◌≤◌, ◌^◌}
 use lib.Dec.{leb}
-use lib.Pow.{pow_pos}
-use lib.ListN.{length, get_or, drop}
-use lib.Seq.{drop-cons, drop-length}
+use lib.ListN.{length, drop}
 use Rattle.katan.specs.Bit.{pick}
 use Rattle.lanes.specs.Many.{any}
 use Rattle.lanes.proofs.any_wide.Given as goal

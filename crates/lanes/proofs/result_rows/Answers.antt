@@ -53,19 +53,19 @@ returns-then-n-le-HIGH_PLACE c = λ j q.
     let narrow = c.if-n-le-HIGH_PLACE.true in
     let x = get_or a.blocks.now j 0 in
     let h : x < 2 ^ (row_of a.variant).n = subst (λ (m : ℕ). x < 2 ^ m) c.requires.n_value.0 (c.requires.by_index j q) in
-    let g : (i : ℕ) → Fits w64 (get_or w.result i 0) = λ i. search (rules, w.type-inv) in
+    let g : (i : ℕ) → Fits w64 (get_or w.result i 0) = λ i. search (rules, w.type_inv) in
     c.rows_from_words.ensures j q
     ∙ ap (one_block a.direction a.variant (block_key a.keys.now j))
-    (lane_below (row_of a.variant) w.result _ c.transpose-words.ensures (search (rules, w.type-inv)) (λ i l. (g i).fits) j (omega (arith, c.requires.n_value.1)) x h
+    (lane_below (row_of a.variant) w.result _ c.transpose-words.ensures (search (rules, w.type_inv)) (λ i l. (g i).fits) j (omega (arith, c.requires.n_value.1)) x h
     (block_key a.keys.now j) (subst (λ (m : ℕ). m ≤ high_place) c.requires.n_value.0 narrow) (w.ensures j q))
 
 pub returns-else-n-le-HIGH_PLACE : goal.returns-else-n-le-HIGH_PLACE
 returns-else-n-le-HIGH_PLACE c = λ j q.
     let a = c.args in
-    let w = c.rows_of_lem in
+    let w = c.rows_of in
     let x = get_or a.blocks.now j 0 in
     let h : x < 2 ^ (row_of a.variant).n = subst (λ (m : ℕ). x < 2 ^ m) c.requires.n_value.0 (c.requires.by_index j q) in
-    let g : (i : ℕ) → Fits w64 (get_or w.result i 0) = λ i. search (rules, w.type-inv) in
+    let g : (i : ℕ) → Fits w64 (get_or w.result i 0) = λ i. search (rules, w.type_inv) in
     c.rows_from_words-else-n-le-HIGH_PLACE.ensures j q
     ∙ ap (one_block a.direction a.variant (block_key a.keys.now j))
-    (lane_plain (row_of a.variant) w.result _ c.transpose-words-else-n-le-HIGH_PLACE.ensures (search (rules, w.type-inv)) (λ i l. (g i).fits) j (omega (arith, c.requires.n_value.1)) x h (w.ensures j q))
+    (lane_plain (row_of a.variant) w.result _ c.transpose-words-else-n-le-HIGH_PLACE.ensures (search (rules, w.type_inv)) (λ i l. (g i).fits) j (omega (arith, c.requires.n_value.1)) x h (w.ensures j q))

@@ -10,4 +10,4 @@ returns c =
     let keys = c.round_words-round_keys in
     let to = c.all_rounds in
     block_rows a.direction a.variant a.n c.requires.0 (block_key a.keys.now) a.count c.requires.1 key.result keys.result a.words.now to.result c.transpose.result
-    (search (rules, key.type-inv)) key.ensures keys.ensures to.ensures c.transpose.ensures
+    (search (rules, key.type_inv)) key.ensures keys.ensures to.ensures c.transpose.ensures

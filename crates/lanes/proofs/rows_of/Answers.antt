@@ -1,10 +1,7 @@
-use mathlib.Core.Path.{◌≡◌, refl, ◌∙◌}
-use Prim.Native.Nat.{◌-◌, ◌≤◌}
+use mathlib.Core.Path.{refl, ◌∙◌}
 use native.Mathlib.Omega.{arith}
 use borrow.Author.Rules.{rules}
-use lib.ListN.{length, length-set, get_or}
-use Rattle.katan.specs.inner.Within.{Entries}
-use Rattle.katan.specs.Sizes.{word_bits}
+use lib.ListN.{length-set, get_or}
 use Rattle.katan.proofs.Fill.{filled}
 use Rattle.lanes.proofs.rows_of.Goals as goal
 

@@ -1,14 +1,10 @@
-use mathlib.Core.Path.{◌≡◌, sym, ap₂, ◌∙◌}
+use mathlib.Core.Path.{◌≡◌}
 use Prim.Native.Nat.{ℕ, ◌-◌, ◌*◌, ◌≤◌}
-use native.Mathlib.Omega.{arith}
-use borrow.Author.Rules.{rules}
-use lib.ListN.{length, length-set, get_or}
-use Rattle.katan.specs.Bit.{xor}
+use lib.ListN.{length}
 use Rattle.katan.specs.Counter.{rounds}
 use Rattle.katan.specs.Key.{key_length}
 use Rattle.katan.specs.inner.Within.{Entries}
 use Rattle.lanes_keys.specs.inner.Keeps.{Keeps}
-use Rattle.katan.proofs.Fill.{filled}
 use Rattle.lanes_keys.proofs.extend.Given as goal
 
 abbrev pub invariant-loop-i : goal.invariant-loop-i

@@ -1,14 +1,13 @@
 use mathlib.Core.List.{List}
 use mathlib.Core.Path.{◌≡◌, ap, ◌∙◌}
-use Prim.Native.Nat.{ℕ, ◌-◌, ◌*◌, ◌≤◌, ◌<◌}
+use Prim.Native.Nat.{ℕ, ◌*◌, ◌<◌}
 use native.Mathlib.Omega.{arith}
 use borrow.Author.Rules.{rules}
-use lib.ListN.{length, length-set, get_or}
+use lib.ListN.{length-set, get_or}
 use Rattle.katan.specs.Bit.{tabulate}
 use Rattle.katan.specs.Counter.{rounds}
 use Rattle.katan.specs.Key.{key_length, key_bit_number}
 use Rattle.katan.proofs.Tables.{entry, number_below}
-use Rattle.katan.specs.inner.Within.{Entries}
 use Rattle.katan.proofs.Fill.{filled}
 use Rattle.lanes_keys.proofs.ktantan_words.Goals as goal
 

@@ -1,15 +1,8 @@
-use mathlib.Core.List.{List}
-use mathlib.Core.Path.{◌≡◌, ap, ◌∙◌}
-use Prim.Native.Nat.{ℕ, ◌-◌, ◌*◌, ◌≤◌, ◌<◌}
-use native.Mathlib.Omega.{arith}
-use borrow.Author.Rules.{rules}
-use lib.ListN.{length, length-set, get_or}
-use Rattle.katan.specs.Bit.{tabulate}
+use mathlib.Core.Path.{◌≡◌}
+use Prim.Native.Nat.{◌-◌, ◌*◌, ◌≤◌}
+use lib.ListN.{length, get_or}
 use Rattle.katan.specs.Counter.{rounds}
-use Rattle.katan.specs.Key.{key_length, key_bit_number}
-use Rattle.katan.proofs.Tables.{entry, number_below}
 use Rattle.katan.specs.inner.Within.{Entries}
-use Rattle.katan.proofs.Fill.{filled}
 use Rattle.lanes_keys.proofs.ktantan_words.Given as goal
 
 abbrev pub invariant-loop-i : goal.invariant-loop-i

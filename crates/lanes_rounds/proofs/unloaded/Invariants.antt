@@ -1,10 +1,6 @@
-use mathlib.Core.Path.{◌≡◌, refl, ◌∙◌}
+use mathlib.Core.Path.{◌≡◌}
 use Prim.Native.Nat.{ℕ, ◌+◌, ◌-◌, ◌≤◌, ◌<◌}
-use native.Mathlib.Omega.{arith}
-use borrow.Author.Rules.{rules}
-use lib.ListN.{length, length-set, get_or}
-use lib.Seq.{get_or-set_other}
-use Rattle.lanes_rounds.proofs.Stores.{stored}
+use lib.ListN.{length, get_or}
 use Rattle.lanes_rounds.proofs.unloaded.Given as goal
 
 abbrev pub invariant-loop-i : goal.invariant-loop-i

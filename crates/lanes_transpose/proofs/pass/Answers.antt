@@ -1,9 +1,9 @@
-use mathlib.Core.Path.{◌≡◌, ap₂, ◌∙◌}
-use Prim.Native.Nat.{ℕ, ◌≤◌, ◌-◌}
+use mathlib.Core.Path.{ap₂, ◌∙◌}
+use Prim.Native.Nat.{ℕ}
 use native.Mathlib.Omega.{arith}
-use lib.ListN.{length, length-replicate}
+use lib.ListN.{length-replicate}
 use borrow.Author.Rules.{rules}
-use Rattle.lanes_transpose.specs.inner.Stage.{swapped_low, swapped_high, Passed}
+use Rattle.lanes_transpose.specs.inner.Stage.{swapped_low, swapped_high}
 use Rattle.lanes_transpose.proofs.Passes.{four_stored, passed_none, passed_more}
 use Rattle.lanes_transpose.proofs.pass.Goals as goal
 

@@ -1,10 +1,7 @@
-use mathlib.Core.Path.{◌≡◌, ap₂, ◌∙◌}
-use Prim.Native.Nat.{ℕ, ◌≤◌, ◌-◌}
-use native.Mathlib.Omega.{arith}
-use lib.ListN.{length, length-replicate}
-use borrow.Author.Rules.{rules}
-use Rattle.lanes_transpose.specs.inner.Stage.{swapped_low, swapped_high, Passed}
-use Rattle.lanes_transpose.proofs.Passes.{four_stored, passed_none, passed_more}
+use mathlib.Core.Path.{◌≡◌}
+use Prim.Native.Nat.{◌≤◌, ◌-◌}
+use lib.ListN.{length}
+use Rattle.lanes_transpose.specs.inner.Stage.{Passed}
 use Rattle.lanes_transpose.proofs.pass.Given as goal
 
 abbrev pub invariant-loop-i : goal.invariant-loop-i

@@ -1,5 +1,4 @@
 use mathlib.Core.Path.{refl}
-use borrow.Author.Rules.{rules}
 use Rattle.lanes_transpose.specs.inner.Stage.{difference, swapped_low}
 use Rattle.lanes_transpose.proofs.swapped_low.Goals as goal
 

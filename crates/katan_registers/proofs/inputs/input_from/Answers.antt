@@ -1,7 +1,6 @@
 use mathlib.Core.Path.{ap}
 use Rattle.katan.specs.Counter.{ir_of}
 use Rattle.katan_clocks.proofs.Rounds.{same_input}
-use borrow.Author.Rules.{rules}
 use Rattle.katan_registers.proofs.inputs.input_from.Goals as goal
 
 pub returns : goal.returns

@@ -4,7 +4,6 @@ use lib.ListN.{get_or}
 use Rattle.katan.specs.Variant.{is_katan}
 use Rattle.katan_keys.specs.Window.{window_number}
 use Rattle.katan_registers.specs.inner.Tables.{input_from}
-use borrow.Author.Rules.{rules}
 use Rattle.katan_registers.proofs.inputs.input_of.Goals as goal
 
 pub returns-then-is_katan : goal.returns-then-is_katan

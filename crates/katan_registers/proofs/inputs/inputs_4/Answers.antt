@@ -1,5 +1,4 @@
 use Rattle.katan_clocks.proofs.Rounds.{same_input}
-use borrow.Author.Rules.{rules}
 use Rattle.katan_registers.proofs.inputs.inputs_4.Goals as goal
 
 pub returns : goal.returns

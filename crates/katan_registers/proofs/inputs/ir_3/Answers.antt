@@ -3,7 +3,6 @@ use Prim.Native.Nat.{ℕ, ◌-◌}
 use lib.ListN.{get_or}
 use Rattle.katan.specs.Bit.{bit}
 use Rattle.katan_registers.proofs.Laws.{three_beside}
-use borrow.Author.Rules.{rules}
 use Rattle.katan_registers.proofs.inputs.ir_3.Goals as goal
 
 pub returns : goal.returns

@@ -2,7 +2,6 @@ use mathlib.Core.Path.{subst}
 use Prim.Native.Nat.{ℕ, ◌<◌, ◌^◌}
 use lib.ListN.{get_or}
 use Rattle.katan_registers.proofs.Laws.{four_irs}
-use borrow.Author.Rules.{rules}
 use Rattle.katan_registers.proofs.inputs.ir_4.Goals as goal
 
 pub returns : goal.returns

@@ -1,7 +1,6 @@
 use mathlib.Core.Path.{sym, ◌∙◌}
 use Rattle.katan_keys.specs.Window.{window_number}
 use Rattle.katan_registers.proofs.Laws.{of_window, of_table}
-use borrow.Author.Rules.{rules}
 use Rattle.katan_registers.proofs.inputs.key_3.Goals as goal
 
 pub returns-then-is_katan : goal.returns-then-is_katan

@@ -1,9 +1,8 @@
 use mathlib.Core.Path.{sym, ap, ◌∙◌}
-use Prim.Native.Nat.{ℕ, ◌+◌, ◌-◌, ◌*◌}
+use Prim.Native.Nat.{ℕ, ◌+◌, ◌*◌}
 use native.Mathlib.Nat.{add-zero}
 use lib.ListN.{get_or}
 use Rattle.katan_registers.proofs.Laws.{three_beside}
-use borrow.Author.Rules.{rules}
 use Rattle.katan_registers.proofs.inputs.picked_3.Goals as goal
 
 pub returns : goal.returns

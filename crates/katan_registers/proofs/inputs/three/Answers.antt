@@ -1,7 +1,6 @@
 use native.Mathlib.Omega.{arith}
 use Rattle.katan_clocks.proofs.Shifts.{some_ones}
 use Rattle.katan_registers.proofs.Laws.{two_fit, three_fit, filled_fits, three_filled}
-use borrow.Author.Rules.{rules}
 use Rattle.katan_registers.proofs.inputs.three.Goals as goal
 
 pub overflow_add-result : goal.overflow_add-result

@@ -1,10 +1,9 @@
 use mathlib.Core.Path.{sym, ap, ◌∙◌}
-use Prim.Native.Nat.{◌+◌, ◌-◌, ◌*◌}
+use Prim.Native.Nat.{◌+◌, ◌*◌}
 use native.Mathlib.Nat.{add-zero}
 use Rattle.katan.specs.Bit.{bit}
 use Rattle.katan_keys.specs.Window.{window_number}
 use Rattle.katan_registers.proofs.Laws.{three_beside}
-use borrow.Author.Rules.{rules}
 use Rattle.katan_registers.proofs.inputs.window_3.Goals as goal
 
 pub returns : goal.returns

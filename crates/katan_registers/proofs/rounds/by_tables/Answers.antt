@@ -1,6 +1,5 @@
 use mathlib.Core.Path.{sym, ap, ◌∙◌}
 use native.Mathlib.Omega.{arith}
-use borrow.Author.Rules.{rules}
 use Prim.Native.Nat.{◌-◌, ◌%◌, ◌^◌}
 use Rattle.katan.specs.Key.{key_number}
 use Rattle.katan.specs.Clock.{run, unrun, block, registers, input_of}

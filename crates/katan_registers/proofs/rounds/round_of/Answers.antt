@@ -1,5 +1,4 @@
 use Rattle.katan_registers.proofs.Laws.{round_moves}
-use borrow.Author.Rules.{rules}
 use Rattle.katan_registers.proofs.rounds.round_of.Goals as goal
 
 pub returns : goal.returns

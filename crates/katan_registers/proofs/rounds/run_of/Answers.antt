@@ -9,7 +9,6 @@ use Rattle.katan.proofs.Variants.{strides}
 use Rattle.katan_registers.specs.inner.Tables.{Moves}
 use Rattle.katan_registers.specs.declared.rounds.Running.{Running}
 use Rattle.katan_registers.proofs.Laws.{in_parts}
-use borrow.Author.Rules.{rules}
 use Rattle.katan_registers.proofs.rounds.run_of.Goals as goal
 
 pub nonzero_rem-rest : goal.nonzero_rem-rest

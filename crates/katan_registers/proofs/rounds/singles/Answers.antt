@@ -1,5 +1,5 @@
 use mathlib.Core.Path.{◌≡◌, subst}
-use Prim.Native.Nat.{ℕ, ◌-◌, ◌≤◌}
+use Prim.Native.Nat.{ℕ}
 use native.Mathlib.Omega.{arith}
 use Rattle.katan_registers.specs.inner.Tables.{Moves}
 use Rattle.katan_registers.proofs.Laws.{moves_none, moves_more}

@@ -1,8 +1,5 @@
-use mathlib.Core.Path.{◌≡◌, subst}
 use Prim.Native.Nat.{ℕ, ◌-◌, ◌≤◌}
-use native.Mathlib.Omega.{arith}
 use Rattle.katan_registers.specs.inner.Tables.{Moves}
-use Rattle.katan_registers.proofs.Laws.{moves_none, moves_more}
 use Rattle.katan_registers.proofs.rounds.singles.Given as goal
 
 abbrev pub invariant-loop-i : goal.invariant-loop-i

@@ -7,7 +7,6 @@ use Rattle.katan.specs.Stride.{stride_of}
 use Rattle.katan.specs.declared.Row.{Row}
 use Rattle.katan.proofs.Variants.{is_row32, is_row48, is_row64}
 use Rattle.katan_registers.proofs.Laws.{named, stride_moves}
-use borrow.Author.Rules.{rules}
 use Rattle.katan_registers.proofs.rounds.stride_of.Goals as goal
 
 pub inputs_3-requires : goal.inputs_3-requires

@@ -6,7 +6,6 @@ use Rattle.katan.specs.Variant.{row_of}
 use Rattle.katan.specs.Stride.{stride_of}
 use Rattle.katan_registers.specs.inner.Tables.{Moves}
 use Rattle.katan_registers.proofs.Laws.{moves_none}
-use borrow.Author.Rules.{rules}
 use Rattle.katan_registers.proofs.rounds.strides.Goals as goal
 
 pub returns-then-n-eq0 : goal.returns-then-n-eq0

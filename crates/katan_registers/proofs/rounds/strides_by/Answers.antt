@@ -1,11 +1,10 @@
-use borrow.Author.Rules.{rules}
 use mathlib.Core.Path.{◌≡◌, sym, subst}
-use Prim.Native.Nat.{ℕ, ◌+◌, ◌-◌, ◌*◌, ◌≤◌}
+use Prim.Native.Nat.{ℕ, ◌+◌, ◌*◌}
 use native.Mathlib.Nat.{zero-mul}
 use native.Mathlib.Omega.{arith}
 use Rattle.katan.specs.Variant.{row_of}
 use Rattle.katan.specs.Stride.{stride_of}
-use Rattle.katan_registers.specs.inner.Tables.{KeyBits, Moves}
+use Rattle.katan_registers.specs.inner.Tables.{Moves}
 use Rattle.katan_registers.proofs.Laws.{moves_none, stride_more, within}
 use Rattle.katan_registers.proofs.rounds.strides_by.Goals as goal
 

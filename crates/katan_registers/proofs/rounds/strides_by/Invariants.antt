@@ -1,12 +1,7 @@
-use borrow.Author.Rules.{rules}
-use mathlib.Core.Path.{◌≡◌, sym, subst}
-use Prim.Native.Nat.{ℕ, ◌+◌, ◌-◌, ◌*◌, ◌≤◌}
-use native.Mathlib.Nat.{zero-mul}
-use native.Mathlib.Omega.{arith}
+use Prim.Native.Nat.{ℕ, ◌-◌, ◌*◌, ◌≤◌}
 use Rattle.katan.specs.Variant.{row_of}
 use Rattle.katan.specs.Stride.{stride_of}
 use Rattle.katan_registers.specs.inner.Tables.{KeyBits, Moves}
-use Rattle.katan_registers.proofs.Laws.{moves_none, stride_more, within}
 use Rattle.katan_registers.proofs.rounds.strides_by.Given as goal
 
 abbrev pub invariant-loop-i : goal.invariant-loop-i

@@ -10,7 +10,6 @@ use Rattle.katan.proofs.Variants.{strides}
 use Rattle.katan_registers.specs.inner.Tables.{MovesBack}
 use Rattle.katan_registers.specs.declared.rounds.Running.{Running}
 use Rattle.katan_registers.proofs.Laws.{in_parts_back}
-use borrow.Author.Rules.{rules}
 use Rattle.katan_registers.proofs.rounds.unrun_of.Goals as goal
 
 pub nonzero_rem-left : goal.nonzero_rem-left

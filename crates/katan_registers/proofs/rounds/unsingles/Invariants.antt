@@ -1,9 +1,5 @@
-use mathlib.Core.Path.{◌≡◌, sym, subst}
 use Prim.Native.Nat.{ℕ, ◌+◌, ◌-◌, ◌≤◌}
-use native.Mathlib.Nat.{sub_self}
-use native.Mathlib.Omega.{arith}
 use Rattle.katan_registers.specs.inner.Tables.{MovesBack}
-use Rattle.katan_registers.proofs.Laws.{back_none, back_more}
 use Rattle.katan_registers.proofs.rounds.unsingles.Given as goal
 
 abbrev pub invariant-loop-left : goal.invariant-loop-left

@@ -1,12 +1,7 @@
-use borrow.Author.Rules.{rules}
-use mathlib.Core.Path.{◌≡◌, sym, ap, subst, ◌∙◌}
 use Prim.Native.Nat.{ℕ, ◌+◌, ◌-◌, ◌*◌, ◌≤◌}
-use native.Mathlib.Nat.{zero-mul, sub_self}
-use native.Mathlib.Omega.{arith}
 use Rattle.katan.specs.Variant.{row_of}
 use Rattle.katan.specs.Stride.{stride_of}
 use Rattle.katan_registers.specs.inner.Tables.{KeyBits, MovesBack}
-use Rattle.katan_registers.proofs.Laws.{back_none, stride_less, within}
 use Rattle.katan_registers.proofs.rounds.unstrides_by.Given as goal
 
 abbrev pub invariant-loop-left : goal.invariant-loop-left

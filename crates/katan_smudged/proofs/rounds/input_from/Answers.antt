@@ -1,5 +1,4 @@
 use Rattle.katan_smudged.proofs.Sources.{input_made}
-use borrow.Author.Rules.{rules}
 use Rattle.katan_smudged.proofs.rounds.input_from.Goals as goal
 
 pub returns : goal.returns

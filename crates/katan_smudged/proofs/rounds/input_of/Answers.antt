@@ -3,7 +3,6 @@ use mathlib.Core.Bool.{true, false}
 use lib.ListN.{get_or}
 use Rattle.katan.specs.Variant.{is_katan}
 use Rattle.katan_smudged.specs.inner.Words.{input_from}
-use borrow.Author.Rules.{rules}
 use Rattle.katan_smudged.proofs.rounds.input_of.Goals as goal
 
 pub returns-then-is_katan : goal.returns-then-is_katan

@@ -1,5 +1,4 @@
 use Rattle.katan_smudged.proofs.Loads.{registers_are}
-use borrow.Author.Rules.{rules}
 use Rattle.katan_smudged.proofs.rounds.registers_of.Goals as goal
 
 pub returns : goal.returns

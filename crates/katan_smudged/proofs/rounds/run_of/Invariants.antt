@@ -1,17 +1,13 @@
-use mathlib.Core.Path.{◌≡◌, subst}
+use mathlib.Core.Path.{◌≡◌}
 use mathlib.Core.List.{List}
-use Prim.Native.Nat.{ℕ, ◌-◌, ◌≤◌}
-use native.Mathlib.Numerals.{add-one}
-use native.Mathlib.Omega.{arith}
+use Prim.Native.Nat.{◌-◌, ◌≤◌}
 use lib.ListN.{length}
 use Rattle.katan.specs.Key.{key_length}
 use Rattle.katan.specs.Variant.{row_of}
 use Rattle.katan_sheet.specs.Three.{Three}
 use Rattle.katan_sheet.specs.Cells.{Cells}
-use Rattle.katan_smudged.specs.inner.Words.{RegistersFit, input_words, HoldsCells, run_three}
-use Rattle.katan_smudged.proofs.Places.{clocks_fit}
-use Rattle.katan_smudged.proofs.Runs.{After, Reached, round_on}
-use borrow.Author.Rules.{rules}
+use Rattle.katan_smudged.specs.inner.Words.{RegistersFit}
+use Rattle.katan_smudged.proofs.Runs.{Reached}
 use Rattle.katan_smudged.proofs.rounds.run_of.Given as goal
 
 abbrev pub invariant-loop-r : goal.invariant-loop-r

@@ -8,7 +8,6 @@ use Rattle.katan_sheet.specs.Sheet.{bits_given}
 use Rattle.katan_sheet.specs.Answers.{key_known}
 use Rattle.katan_smudged.specs.inner.Words.{registers_words, block_words}
 use Rattle.katan_smudged.proofs.Loads.{length-given, loaded_fits, loaded_holds, key_holds, result_is}
-use borrow.Author.Rules.{rules}
 use Rattle.katan_smudged.proofs.rounds.smudged_to.Goals as goal
 
 pub run_of-requires : goal.run_of-requires

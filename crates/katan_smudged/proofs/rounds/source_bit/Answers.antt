@@ -1,4 +1,3 @@
-use borrow.Author.Rules.{rules}
 use Rattle.katan_smudged.proofs.rounds.source_bit.Goals as goal
 
 pub returns : goal.returns

@@ -1,5 +1,4 @@
 use Rattle.katan.proofs.Undo.{sound}
-use borrow.Author.Rules.{rules}
 use Rattle.katan_smudged.proofs.words.clock_48.Goals as goal
 
 pub fa_of-fa-requires : goal.fa_of-fa-requires

@@ -1,9 +1,9 @@
 use mathlib.Core.Path.{◌≡◌, refl, ap, ◌∙◌}
-use Prim.Native.Nat.{ℕ, ◌-◌, ◌≤◌}
+use Prim.Native.Nat.{ℕ}
 use native.Mathlib.Numerals.{add-one}
 use native.Mathlib.Omega.{arith}
 use Rattle.katan.specs.Variant.{row_of}
-use Rattle.katan_smudged.specs.inner.Words.{clock_words, clocks_words, RegistersFit}
+use Rattle.katan_smudged.specs.inner.Words.{clock_words, clocks_words}
 use Rattle.katan_smudged.proofs.Places.{clock_fits}
 use Rattle.katan_smudged.proofs.words.clocks_of.Goals as goal
 

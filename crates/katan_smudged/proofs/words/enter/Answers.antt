@@ -1,5 +1,4 @@
 use Rattle.katan_smudged.specs.inner.Words.{enter}
-use borrow.Author.Rules.{rules}
 use Rattle.katan_smudged.proofs.words.enter.Goals as goal
 
 pub returns : goal.returns

@@ -1,5 +1,4 @@
 use Rattle.katan_smudged.specs.inner.Words.{fa_words}
-use borrow.Author.Rules.{rules}
 use Rattle.katan_smudged.proofs.words.fa_of.Goals as goal
 
 pub returns : goal.returns

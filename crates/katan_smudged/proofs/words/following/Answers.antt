@@ -1,5 +1,4 @@
 use Rattle.katan_smudged.specs.inner.Words.{following}
-use borrow.Author.Rules.{rules}
 use Rattle.katan_smudged.proofs.words.following.Goals as goal
 
 pub returns : goal.returns

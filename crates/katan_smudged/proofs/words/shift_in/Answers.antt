@@ -2,7 +2,6 @@ use Prim.Native.Nat.{◌^◌, ◌<◌}
 use native.Mathlib.Omega.{arith}
 use lib.Pow.{pow_pos}
 use Rattle.katan.proofs.Bits.{one_shifted, room}
-use borrow.Author.Rules.{rules}
 use Rattle.katan_smudged.proofs.words.shift_in.Goals as goal
 
 pub overflow_mul-result : goal.overflow_mul-result

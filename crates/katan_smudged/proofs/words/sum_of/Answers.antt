@@ -1,4 +1,3 @@
-use borrow.Author.Rules.{rules}
 use Rattle.katan_smudged.proofs.words.sum_of.Goals as goal
 
 pub returns : goal.returns

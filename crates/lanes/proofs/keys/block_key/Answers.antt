@@ -1,7 +1,6 @@
 use mathlib.Core.Path.{ap, ◌∙◌}
 use Rattle.katan.specs.Key.{key_number}
 use Rattle.katan.proofs.KeyNumbers.{number_of_key}
-use borrow.Author.Rules.{rules}
 use Rattle.lanes.proofs.KeyLanes.{key_part}
 use Rattle.lanes.proofs.keys.block_key.Goals as goal
 

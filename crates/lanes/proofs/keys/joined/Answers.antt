@@ -1,14 +1,12 @@
-use mathlib.Core.Path.{◌≡◌, sym, ap, ◌∙◌}
+use mathlib.Core.Path.{sym, ap, ◌∙◌}
 use mathlib.Core.Bool.{Bool}
-use Prim.Native.Nat.{◌-◌, ◌≤◌}
+use Prim.Native.Nat.{◌-◌}
 use native.Mathlib.Omega.{arith}
 use borrow.Author.Rules.{rules}
 use borrow.Author.Tests.{le-leb, lt-leb}
-use lib.ListN.{length, length-set, get_or}
+use lib.ListN.{length-set, get_or}
 use Rattle.katan.specs.Bit.{pick}
-use Rattle.katan.specs.inner.Within.{Entries}
 use Rattle.katan.specs.Sizes.{word_bits}
-use Rattle.katan.specs.Key.{key_length}
 use Rattle.katan.proofs.Fill.{filled}
 use Rattle.lanes.specs.inner.Words.{high_bits, key_word}
 use Rattle.lanes.proofs.keys.joined.Goals as goal

@@ -1,16 +1,10 @@
-use mathlib.Core.Path.{◌≡◌, sym, ap, ◌∙◌}
-use mathlib.Core.Bool.{Bool}
+use mathlib.Core.Path.{◌≡◌}
 use Prim.Native.Nat.{◌-◌, ◌≤◌}
-use native.Mathlib.Omega.{arith}
-use borrow.Author.Rules.{rules}
-use borrow.Author.Tests.{le-leb, lt-leb}
-use lib.ListN.{length, length-set, get_or}
-use Rattle.katan.specs.Bit.{pick}
+use lib.ListN.{length}
 use Rattle.katan.specs.inner.Within.{Entries}
 use Rattle.katan.specs.Sizes.{word_bits}
 use Rattle.katan.specs.Key.{key_length}
-use Rattle.katan.proofs.Fill.{filled}
-use Rattle.lanes.specs.inner.Words.{high_bits, key_word}
+use Rattle.lanes.specs.inner.Words.{key_word}
 use Rattle.lanes.proofs.keys.joined.Given as goal
 
 abbrev pub invariant-loop-i : goal.invariant-loop-i

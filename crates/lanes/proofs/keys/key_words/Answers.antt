@@ -1,4 +1,3 @@
-use borrow.Author.Rules.{rules}
 use Rattle.lanes.specs.Many.{block_key}
 use Rattle.lanes.proofs.KeyLanes.{key_lanes}
 use Rattle.lanes.proofs.keys.key_words.Goals as goal

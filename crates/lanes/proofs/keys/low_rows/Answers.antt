@@ -1,10 +1,9 @@
-use mathlib.Core.Path.{◌≡◌, ◌∙◌}
-use Prim.Native.Nat.{◌-◌, ◌%◌, ◌^◌, ◌≤◌}
+use mathlib.Core.Path.{◌∙◌}
+use Prim.Native.Nat.{◌%◌, ◌^◌}
 use native.Mathlib.Omega.{arith}
 use borrow.Author.Rules.{rules}
-use lib.ListN.{length, length-set}
+use lib.ListN.{length-set}
 use Rattle.lanes.specs.Many.{block_key}
-use Rattle.katan.specs.inner.Within.{Entries}
 use Rattle.katan.specs.Sizes.{word_bits}
 use Rattle.katan.proofs.Fill.{filled}
 use Rattle.lanes.proofs.KeyLanes.{low_part}
@@ -20,7 +19,7 @@ loop-i-preserved c =
     let k = c.block_key in (
       length-set l.rows l.i _ ∙ l.invariant.0,
       omega arith,
-      filled (λ j. block_key keys j % 2 ^ word_bits) l.rows l.i k.result.low (omega arith) l.invariant.2 (low_part k.result (block_key keys l.i) k.ensures (omega (arith, k.type-inv))),
+      filled (λ j. block_key keys j % 2 ^ word_bits) l.rows l.i k.result.low (omega arith) l.invariant.2 (low_part k.result (block_key keys l.i) k.ensures (omega (arith, k.type_inv))),
     )
 
 pub returns : goal.returns

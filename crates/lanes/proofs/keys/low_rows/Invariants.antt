@@ -1,13 +1,9 @@
-use mathlib.Core.Path.{◌≡◌, ◌∙◌}
+use mathlib.Core.Path.{◌≡◌}
 use Prim.Native.Nat.{◌-◌, ◌%◌, ◌^◌, ◌≤◌}
-use native.Mathlib.Omega.{arith}
-use borrow.Author.Rules.{rules}
-use lib.ListN.{length, length-set}
+use lib.ListN.{length}
 use Rattle.lanes.specs.Many.{block_key}
 use Rattle.katan.specs.inner.Within.{Entries}
 use Rattle.katan.specs.Sizes.{word_bits}
-use Rattle.katan.proofs.Fill.{filled}
-use Rattle.lanes.proofs.KeyLanes.{low_part}
 use Rattle.lanes.proofs.keys.low_rows.Given as goal
 
 abbrev pub invariant-loop-i : goal.invariant-loop-i

@@ -1,11 +1,7 @@
-use mathlib.Core.Path.{◌≡◌, refl, ◌∙◌}
-use Prim.Native.Nat.{◌-◌, ◌≤◌}
+use mathlib.Core.Path.{refl, ◌∙◌}
 use native.Mathlib.Omega.{arith}
 use borrow.Author.Rules.{rules}
-use lib.ListN.{length, length-set, get_or}
-use Rattle.katan.specs.inner.Within.{Entries}
-use Rattle.katan.specs.Sizes.{word_bits}
-use Rattle.katan.specs.Key.{key_length}
+use lib.ListN.{length-set, get_or}
 use Rattle.katan.proofs.Fill.{filled}
 use Rattle.lanes.proofs.keys.low_words.Goals as goal
 

@@ -1,14 +1,10 @@
-use mathlib.Core.Path.{◌≡◌, ap, ◌∙◌}
-use Prim.Native.Nat.{ℕ, ◌+◌, ◌-◌, ◌*◌, ◌^◌, ◌≤◌, ◌<◌}
-use native.Mathlib.Omega.{arith}
-use borrow.Author.Rules.{rules}
-use lib.ListN.{length, length-set, get_or}
+use mathlib.Core.Path.{◌≡◌}
+use Prim.Native.Nat.{◌-◌, ◌≤◌}
+use lib.ListN.{length, get_or}
 use Rattle.katan.specs.inner.Within.{Entries}
 use Rattle.katan.specs.Sizes.{word_bits}
-use Rattle.katan.proofs.Fill.{filled}
 use Rattle.lanes.specs.Many.{block_key}
-use Rattle.lanes.specs.inner.Words.{high_place, with_high}
-use Rattle.lanes.proofs.KeyLanes.{high_part}
+use Rattle.lanes.specs.inner.Words.{with_high}
 use Rattle.lanes.proofs.keys.with_high.Given as goal
 
 abbrev pub invariant-loop-i : goal.invariant-loop-i

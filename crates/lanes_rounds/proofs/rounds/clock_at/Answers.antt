@@ -1,8 +1,6 @@
 use mathlib.Core.Path.{sym, ap}
 use Prim.Native.Nat.{ℕ}
-use native.Mathlib.Omega.{arith}
 use native.Mathlib.Nat.{add-sub_cancel}
-use borrow.Author.Rules.{rules}
 use lib.ListN.{get_or, length-set}
 use Rattle.lanes_rounds.proofs.Clocks.{xor_at, after1, after2}
 use Rattle.lanes_rounds.proofs.rounds.clock_at.Goals as goal

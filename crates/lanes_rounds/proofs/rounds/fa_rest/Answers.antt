@@ -1,7 +1,6 @@
 use mathlib.Core.Path.{ap, ap₂}
 use Prim.Native.Nat.{ℕ}
 use Rattle.katan.specs.Bit.{xor, and}
-use borrow.Author.Rules.{rules}
 use Rattle.lanes_rounds.proofs.rounds.fa_rest.Goals as goal
 
 pub returns : goal.returns

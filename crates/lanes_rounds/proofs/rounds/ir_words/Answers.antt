@@ -3,7 +3,7 @@ use mathlib.Core.List.{List, [], ◌∷◌}
 use Prim.Native.Nat.{ℕ, zero, suc}
 use lib.ListN.{get_or}
 use Rattle.katan.specs.Bit.{tabulate}
-use Rattle.katan.specs.Counter.{tick, counter, ir_of, rounds}
+use Rattle.katan.specs.Counter.{tick, counter, ir_of}
 use Rattle.katan.proofs.Tables.{entry}
 use Rattle.lanes_rounds.specs.inner.Buffers.{spread}
 use Rattle.lanes_rounds.proofs.rounds.ir_words.Goals as goal

@@ -1,8 +1,6 @@
-use Prim.Native.Nat.{suc, ◌+◌, ◌-◌, ◌*◌, ◌≤◌}
+use Prim.Native.Nat.{suc}
 use native.Mathlib.Omega.{arith}
-use borrow.Author.Rules.{rules}
-use Rattle.katan.specs.Counter.{rounds}
-use Rattle.lanes_rounds.proofs.Histories.{few, untouched_below, Begun, begun_more, history_one}
+use Rattle.lanes_rounds.proofs.Histories.{few, untouched_below, begun_more, history_one}
 use Rattle.lanes_rounds.proofs.rounds.round_in.Goals as goal
 
 pub loop-i-init : goal.loop-i-init

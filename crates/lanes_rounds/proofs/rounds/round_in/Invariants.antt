@@ -1,8 +1,6 @@
-use Prim.Native.Nat.{suc, ◌+◌, ◌-◌, ◌*◌, ◌≤◌}
-use native.Mathlib.Omega.{arith}
-use borrow.Author.Rules.{rules}
+use Prim.Native.Nat.{◌+◌, ◌-◌, ◌*◌, ◌≤◌}
 use Rattle.katan.specs.Counter.{rounds}
-use Rattle.lanes_rounds.proofs.Histories.{few, untouched_below, Begun, begun_more, history_one}
+use Rattle.lanes_rounds.proofs.Histories.{Begun}
 use Rattle.lanes_rounds.proofs.rounds.round_in.Given as goal
 
 abbrev pub invariant-loop-i : goal.invariant-loop-i

@@ -1,8 +1,5 @@
-use mathlib.Core.Path.{refl}
 use Prim.Native.Nat.{◌-◌, ◌≤◌}
-use native.Mathlib.Omega.{arith}
 use Rattle.lanes_rounds.specs.inner.Buffers.{Turns, Forward}
-use Rattle.lanes_rounds.proofs.Histories.{forward_none, forward_then, forward_as, turn_fits, turn_less}
 use Rattle.lanes_rounds.proofs.rounds.run.Given as goal
 
 abbrev pub invariant-loop-at : goal.invariant-loop-at

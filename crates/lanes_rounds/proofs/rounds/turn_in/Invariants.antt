@@ -1,10 +1,7 @@
 use mathlib.Core.Path.{◌≡◌}
 use Prim.Native.Nat.{◌+◌, ◌-◌, ◌≤◌}
-use native.Mathlib.Omega.{arith}
-use borrow.Author.Rules.{rules}
 use Rattle.katan.specs.Counter.{rounds}
 use Rattle.lanes_rounds.specs.inner.Buffers.{Forward}
-use Rattle.lanes_rounds.proofs.Histories.{forward_none, forward_then}
 use Rattle.lanes_rounds.proofs.rounds.turn_in.Given as goal
 
 abbrev pub invariant-loop-i : goal.invariant-loop-i

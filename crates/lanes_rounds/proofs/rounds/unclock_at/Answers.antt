@@ -1,7 +1,5 @@
 use mathlib.Core.Path.{refl, ap}
 use Prim.Native.Nat.{ℕ}
-use native.Mathlib.Omega.{arith}
-use borrow.Author.Rules.{rules}
 use lib.ListN.{get_or, length-set}
 use Rattle.lanes_rounds.proofs.Clocks.{xor_at, after1, after2}
 use Rattle.lanes_rounds.proofs.rounds.unclock_at.Goals as goal

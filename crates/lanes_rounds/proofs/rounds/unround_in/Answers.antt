@@ -1,8 +1,6 @@
-use Prim.Native.Nat.{suc, ◌+◌, ◌-◌, ◌*◌, ◌≤◌}
+use Prim.Native.Nat.{suc, ◌+◌, ◌-◌, ◌*◌}
 use native.Mathlib.Omega.{arith}
-use borrow.Author.Rules.{rules}
-use Rattle.katan.specs.Counter.{rounds}
-use Rattle.lanes_rounds.proofs.Histories.{few, untouched_from, kept_from_at, Left, left_more, history_one}
+use Rattle.lanes_rounds.proofs.Histories.{few, untouched_from, kept_from_at, left_more, history_one}
 use Rattle.lanes_rounds.proofs.rounds.unround_in.Goals as goal
 
 pub overflow_add-t : goal.overflow_add-t

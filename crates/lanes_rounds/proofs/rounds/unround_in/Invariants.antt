@@ -1,8 +1,6 @@
-use Prim.Native.Nat.{suc, ◌+◌, ◌-◌, ◌*◌, ◌≤◌}
-use native.Mathlib.Omega.{arith}
-use borrow.Author.Rules.{rules}
+use Prim.Native.Nat.{◌+◌, ◌-◌, ◌*◌, ◌≤◌}
 use Rattle.katan.specs.Counter.{rounds}
-use Rattle.lanes_rounds.proofs.Histories.{few, untouched_from, kept_from_at, Left, left_more, history_one}
+use Rattle.lanes_rounds.proofs.Histories.{Left}
 use Rattle.lanes_rounds.proofs.rounds.unround_in.Given as goal
 
 abbrev pub invariant-loop-t : goal.invariant-loop-t

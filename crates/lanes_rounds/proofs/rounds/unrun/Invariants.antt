@@ -1,8 +1,5 @@
-use mathlib.Core.Path.{refl}
 use Prim.Native.Nat.{◌≤◌}
-use native.Mathlib.Omega.{arith}
 use Rattle.lanes_rounds.specs.inner.Buffers.{Turns, Backward}
-use Rattle.lanes_rounds.proofs.Histories.{backward_none, backward_then, backward_as, turn_fits, turn_less}
 use Rattle.lanes_rounds.proofs.rounds.unrun.Given as goal
 
 abbrev pub invariant-loop-at : goal.invariant-loop-at

@@ -1,9 +1,5 @@
-use mathlib.Core.Path.{◌≡◌, refl}
-use Prim.Native.Nat.{◌+◌, ◌-◌, ◌≤◌}
+use mathlib.Core.Path.{refl}
 use native.Mathlib.Omega.{arith}
-use borrow.Author.Rules.{rules}
-use Rattle.katan.specs.Counter.{rounds}
-use Rattle.lanes_rounds.specs.inner.Buffers.{Backward}
 use Rattle.lanes_rounds.proofs.Histories.{backward_none, backward_then, backward_as}
 use Rattle.lanes_rounds.proofs.rounds.unturn_in.Goals as goal
 

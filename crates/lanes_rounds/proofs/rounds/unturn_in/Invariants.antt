@@ -1,10 +1,7 @@
-use mathlib.Core.Path.{◌≡◌, refl}
+use mathlib.Core.Path.{◌≡◌}
 use Prim.Native.Nat.{◌+◌, ◌-◌, ◌≤◌}
-use native.Mathlib.Omega.{arith}
-use borrow.Author.Rules.{rules}
 use Rattle.katan.specs.Counter.{rounds}
 use Rattle.lanes_rounds.specs.inner.Buffers.{Backward}
-use Rattle.lanes_rounds.proofs.Histories.{backward_none, backward_then, backward_as}
 use Rattle.lanes_rounds.proofs.rounds.unturn_in.Given as goal
 
 abbrev pub invariant-loop-i : goal.invariant-loop-i

@@ -1,5 +1,3 @@
--- `bench_fields::move_fault` meets its contract.
--- Assumes nothing.
 use mathlib.Core.Path.{◌≡◌, refl, sym, ◌∙◌}
 use mathlib.Core.Bool.{false}
 use Prim.Native.Nat.{ℕ}
@@ -13,15 +11,11 @@ use Rattle.bench_record.specs.Fields.{forward}
 use Rattle.bench_record.specs.Checks.{unknown, unused, zero_bytes, wrong_count, none_named, checks_of}
 use Rattle.bench_fields.proofs.Tests.{after_4}
 use borrow.Author.Rules.{rules}
-use Rattle.bench_fields.proofs.move_fault.Statement.{statement}
-use Rattle.bench_fields.proofs.move_fault.Tie as tie
+use Rattle.bench_fields.proofs.move_fault.Goals as goal
 
-zero-bytes-requires : tie.Need-zero-bytes-requires
-zero-bytes-requires c κs = search rules
-
-returns : tie.Need-returns
+pub returns-then-zero_bytes : goal.returns-then-zero_bytes
 unfolding unknown unused
-returns c v = rw (sym c.before.zero-bytes.ensures ∙ c.if1.true)
+returns-then-zero_bytes c v = rw (sym c.before.zero_bytes.ensures ∙ c.if1.true)
 
 abbrev fields : tie.Else1 → Record
 fields c = c.before.before.args.fields
@@ -29,12 +23,9 @@ fields c = c.before.before.args.fields
 no-zero-bytes : (c : tie.Else1) → zero_bytes (fields c) ≡ false
 no-zero-bytes c = sym c.before.zero-bytes.ensures ∙ c.if1.false
 
-load-fields-requires : tie.Need-load-fields-requires
-load-fields-requires c κs = search rules
-
-returns-2 : tie.Need-returns-2
+pub returns-then-load_fields : goal.returns-then-load_fields
 unfolding unknown unused
-returns-2 c v = rw (no-zero-bytes c.before.before, sym c.before.load_fields.ensures ∙ c.if2.true)
+returns-then-load_fields c v = rw (no-zero-bytes c.before.before, sym c.before.load_fields.ensures ∙ c.if2.true)
 
 -- check 4 finds no fault
 left : (c : tie.Else2) (v : ℕ)
@@ -46,16 +37,16 @@ left c v =
     let e = sym c.before.load_fields.ensures ∙ c.if2.false in
     after_4 forward v (fields d) (value tt) refl (rw (no-zero-bytes d) e) e
 
-returns-3 : tie.Need-returns-3
+pub returns-then-count-eq0 : goal.returns-then-count-eq0
 unfolding wrong_count
-returns-3 c v = rw (left c.before v, eq-eqb _ 0 c.if3.true)
+returns-then-count-eq0 c v = rw (left c.before c, eq-eqb _ 0 c.if3.true)
 
-returns-4 : tie.Need-returns-4
+pub returns-then-count-gt-ROUNDS : goal.returns-then-count-gt-ROUNDS
 unfolding wrong_count
-returns-4 c v =
+returns-then-count-gt-ROUNDS c v =
     let d = c.before in
     let r = fields d.before.before.before in
-    rw (left d.before v, ne_eqb _ 0 d.if3.false, lt-ltb rounds r.count (omega arith))
+    rw (left d.before c, ne_eqb _ 0 d.if3.false, lt-ltb rounds r.count (omega arith))
 
 in_range : (c : tie.Else4) → wrong_count forward (fields c.before.before.before.before).count ≡ false
 unfolding wrong_count
@@ -63,27 +54,14 @@ in_range c =
     let r = fields c.before.before.before.before in
     rw (ne_eqb _ 0 c.before.if3.false) (le-ltb rounds r.count (omega arith))
 
-returns-5 : tie.Need-returns-5
+pub returns-then-fields-eq0 : goal.returns-then-fields-eq0
 unfolding none_named
-returns-5 c v =
+returns-then-fields-eq0 c v =
     let d = c.before.before in
-    rw (left d.before.before v, in_range d, eq-eqb _ 0 c.if5.true)
+    rw (left d.before.before c, in_range d, eq-eqb _ 0 c.if5.true)
 
-returns-6 : tie.Need-returns-6
+pub returns : goal.returns
 unfolding none_named
-returns-6 c v =
+returns c v =
     let d = c.before.before in
-    rw (left d.before.before v, in_range d, ne_eqb _ 0 c.if5.false)
-
-pub move-fault-spec : {M : Type 1} → statement M
-move-fault-spec =
-    tie.close
-    (tie.spec
-    zero-bytes-requires
-    returns
-    load-fields-requires
-    returns-2
-    returns-3
-    returns-4
-    returns-5
-    returns-6)
+    rw (left d.before.before c, in_range d, ne_eqb _ 0 c.if5.false)

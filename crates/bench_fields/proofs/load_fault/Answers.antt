@@ -1,5 +1,3 @@
--- `bench_fields::load_fault` meets its contract.
--- Assumes nothing.
 use mathlib.Core.Path.{◌≡◌, sym, ◌∙◌}
 use mathlib.Core.Bool.{false}
 use native.Mathlib.Omega.{arith}
@@ -14,22 +12,18 @@ use Rattle.bench_record.specs.Fields.{load}
 use Rattle.bench_record.specs.Checks.{unknown, unused, zero_bytes, wrong_count, none_named, checks_of}
 use Rattle.bench_fields.proofs.Tests.{nonzero_true, nonzero_false}
 use borrow.Author.Rules.{rules}
-use Rattle.bench_fields.proofs.load_fault.Statement.{statement}
-use Rattle.bench_fields.proofs.load_fault.Tie as tie
+use Rattle.bench_fields.proofs.load_fault.Goals as goal
 
-zero-bytes-requires : tie.Need-zero-bytes-requires
-zero-bytes-requires c κs = search rules
-
-returns : tie.Need-returns
+pub returns-then-zero_bytes : goal.returns-then-zero_bytes
 unfolding unknown unused
-returns c = rw (sym c.before.zero-bytes.ensures ∙ c.if1.true)
+returns-then-zero_bytes c = rw (sym c.zero_bytes.ensures ∙ c.if-zero_bytes.true)
 
 no-zero-bytes : (c : tie.Else1) → zero_bytes c.before.before.args.fields ≡ false
 no-zero-bytes c = sym c.before.zero-bytes.ensures ∙ c.if1.false
 
-returns-2 : tie.Need-returns-2
+pub returns-then-fields-ne0 : goal.returns-then-fields-ne0
 unfolding unknown unused
-returns-2 c = rw (no-zero-bytes c.before.before, nonzero_true _ c.if2.true)
+returns-then-fields-ne0 c = rw (no-zero-bytes c, nonzero_true _ c.if-fields-ne0.true)
 
 abbrev fields : tie.After-too-wide → Record
 fields c = c.before.before.before.before.before.before.before.args.fields
@@ -43,50 +37,23 @@ left c =
     let m = c.before.before.before in
     rw (no-zero-bytes m.before.before, nonzero_false _ m.if2.false, ← c.before.width_of_lem.ensures, ← c.too_wide.ensures)
 
-cast-lane : tie.Need-overflow-cast-lane
-cast-lane c = search rules
-
-width-of-requires : tie.Need-width-of-requires
-width-of-requires c κs = search rules
-
-too-wide-requires : tie.Need-too-wide-requires
-too-wide-requires c κs = search rules
-
-returns-3 : tie.Need-returns-3
-returns-3 c = rw (left c.before, le-leb lane_count (fields c.before).lane (omega arith))
+pub returns-then-lane-ge-LANES : goal.returns-then-lane-ge-LANES
+returns-then-lane-ge-LANES c = rw (left c, le-leb lane_count (fields c).lane (omega arith))
 
 in-lanes : (c : tie.Else3) → leb lane_count (fields c.before).lane ≡ false
 in-lanes c = lt-leb lane_count (fields c.before).lane (omega arith)
 
-returns-4 : tie.Need-returns-4
-returns-4 c =
-    let d = c.before in
-    rw (left d.before, in-lanes d, lt-ltb rounds (fields d.before).count (omega arith))
+pub returns-then-position-gt-ROUNDS : goal.returns-then-position-gt-ROUNDS
+returns-then-position-gt-ROUNDS c =
+    rw (left c, in-lanes c, lt-ltb rounds (fields c).count (omega arith))
 
 in-rounds : (c : tie.Else4) → ltb rounds (fields c.before.before).count ≡ false
 in-rounds c = le-ltb rounds (fields c.before.before).count (omega arith)
 
-returns-5 : tie.Need-returns-5
-returns-5 c =
-    let d = c.before in
-    rw (left d.before.before, in-lanes d.before, in-rounds d, c.if5.true)
+pub returns-then-wide : goal.returns-then-wide
+returns-then-wide c =
+    rw (left c, in-lanes c, in-rounds c, c.if-wide.true)
 
-returns-6 : tie.Need-returns-6
-returns-6 c =
-    let d = c.before in
-    rw (left d.before.before, in-lanes d.before, in-rounds d, c.if5.false)
-
-pub load-fault-spec : {M : Type 1} → statement M
-load-fault-spec =
-    tie.close
-    (tie.spec
-    zero-bytes-requires
-    returns
-    returns-2
-    cast-lane
-    width-of-requires
-    too-wide-requires
-    returns-3
-    returns-4
-    returns-5
-    returns-6)
+pub returns : goal.returns
+returns c =
+    rw (left c, in-lanes c, in-rounds c, c.if-wide.false)
