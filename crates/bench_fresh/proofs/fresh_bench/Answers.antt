@@ -1,0 +1,5 @@
+use mathlib.Core.Path.{refl}
+use Rattle.bench_fresh.proofs.fresh_bench.Goals as goal
+
+pub returns : goal.returns
+returns c = refl
