@@ -1,0 +1,18 @@
+use mathlib.Core.Path.{◌≡◌, sym, ◌∙◌}
+use Prim.Native.Nat.{ℕ, ◌+◌, ◌-◌, ◌*◌, ◌<◌, ◌≤◌}
+use native.Mathlib.Nat.{mul-le-mul}
+use native.Mathlib.Omega.{arith}
+use borrow.Author.Rules.{rules}
+use lib.ListN.{length, get_or}
+use Rattle.katan.specs.Sizes.{lane_count}
+use Rattle.katan.specs.inner.Within.{Entries}
+use Rattle.katan_numbers.proofs.Written.{in_bytes}
+use Rattle.lanes_keystream.specs.inner.Batch.{batch_length, byte_of}
+use Rattle.lanes_keystream.proofs.Places.{word_on}
+use Rattle.lanes_keystream.proofs.batch.put_bytes.Given as goal
+
+abbrev pub invariant-loop-i : goal.invariant-loop-i
+invariant-loop-i l = (length l.out ≡ batch_length) × (l.i ≤ lane_count) × Entries (byte_of l.size (λ j. get_or l.blocks j 0)) (l.size * l.i) l.out
+
+abbrev pub decreases-loop-i : goal.decreases-loop-i
+decreases-loop-i l = lane_count - l.i

@@ -1,0 +1,15 @@
+use mathlib.Core.Path.{◌≡◌, refl, sym, ◌∙◌}
+use Prim.Native.Nat.{◌-◌, ◌≤◌}
+use native.Mathlib.Omega.{arith}
+use lib.ListN.{length, length-set, get_or}
+use lib.Seq.{ext_get_or}
+use Rattle.katan.specs.Sizes.{key_bytes}
+use Rattle.katan.specs.inner.Within.{Entries}
+use Rattle.katan.proofs.Fill.{filled}
+use Rattle.lanes_keystream.proofs.batch.put_key.Given as goal
+
+abbrev pub invariant-loop-i : goal.invariant-loop-i
+invariant-loop-i l = (length l.out ≡ key_bytes) × (l.i ≤ key_bytes) × Entries (λ j. get_or l.key j 0) l.i l.out
+
+abbrev pub decreases-loop-i : goal.decreases-loop-i
+decreases-loop-i l = key_bytes - l.i

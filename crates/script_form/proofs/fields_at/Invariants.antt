@@ -1,0 +1,17 @@
+use borrow.Author.Rules.{rules}
+use Prim.Native.Nat.{ℕ, ◌+◌, ◌-◌, ◌≤◌}
+use mathlib.Core.Path.{◌≡◌, ◌∙◌, sym, ap, subst⁻¹}
+use native.Mathlib.Omega.{arith}
+use lib.ListN.{length, drop}
+use Rattle.script_form.proofs.Blocks.{digits_fit}
+use Rattle.script_form.specs.scanner.Scan.{begin, scan}
+use Rattle.script_form.specs.declared.Fields.{Fields}
+use Rattle.script_form.proofs.Fronts.{scan_end, scan_next}
+use Rattle.script_form.proofs.fields_at.Given as goal
+
+abbrev pub invariant-loop-f : goal.invariant-loop-f
+invariant-loop-f l =
+    (l.f ≤ length l.form) × (scan l.digits l.line (begin l.offset) l.form ≡ scan l.digits l.line l.found (drop l.f l.form))
+
+abbrev pub decreases-loop-f : goal.decreases-loop-f
+decreases-loop-f l = length l.form - l.f
