@@ -1,0 +1,21 @@
+use mathlib.Core.Path.{◌≡◌, refl, ◌∙◌}
+use mathlib.Core.List.{[], ◌++◌, append-nil}
+use Prim.Native.Nat.{◌+◌, ◌*◌, ◌-◌, ◌≤◌, ◌<◌}
+use native.Mathlib.Omega.{arith}
+use lib.ListN.{length, take, drop, length-set, drop_of_length-le, length-map}
+use lib.Seq.{take_all}
+use borrow.Author.Rules.{rules}
+use Rattle.katan.specs.Sizes.{lane_count}
+use Rattle.bench.specs.Steps.{step_slots, moved_slots}
+use Rattle.bench.proofs.Loops.{steps_on, total_on}
+use Rattle.bench_moves.specs.Moves.{step_lane, move_lane}
+use Rattle.bench_moves.proofs.step_lanes.Given as goal
+
+abbrev pub invariant-loop-i : goal.invariant-loop-i
+invariant-loop-i l =
+    ((l.i ≤ lane_count) × (length l.slots ≡ lane_count) × (l.total ≤ 255 * l.i))
+    × (take l.i l.slots ++ step_slots (step_lane l.variant l.motion) l.rest (drop l.i l.slots) ≡ step_slots (step_lane l.variant l.motion) l.mask l.initial.slots)
+    × (l.total + moved_slots (move_lane l.variant l.motion) l.rest (drop l.i l.slots) ≡ moved_slots (move_lane l.variant l.motion) l.mask l.initial.slots)
+
+abbrev pub decreases-loop-i : goal.decreases-loop-i
+decreases-loop-i l = lane_count - l.i

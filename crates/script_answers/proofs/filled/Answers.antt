@@ -1,0 +1,10 @@
+use borrow.Author.Rules.{rules}
+use Rattle.script_form.specs.Form.{fill}
+use mathlib.Core.Path.{◌∙◌}
+use Rattle.script_answers.proofs.Lines.{as_printed}
+use Rattle.script_answers.proofs.filled.Goals as goal
+
+pub returns : goal.returns
+returns c =
+    let a = c.args in
+    as_printed (fill a.digits a.form.now a.values) _ c.write_form-length.ensures.0 (rw c.no_bytes-bytes.ensures at c.write_form-length.ensures.1)
