@@ -1,0 +1,20 @@
+use mathlib.Core.Path.{◌≡◌, refl, ap, ◌∙◌}
+use mathlib.Core.List.{List, ◌++◌}
+use Prim.Native.Nat.{ℕ, ◌+◌, ◌*◌, ◌-◌, ◌≤◌, ◌<◌}
+use native.Mathlib.Omega.{arith}
+use borrow.Author.Rules.{rules}
+use lib.ListN.{length, get_or, take, drop, length-set}
+use Rattle.katan.specs.Sizes.{lane_count}
+use Rattle.bench.specs.declared.Slot.{Slot}
+use Rattle.bench.specs.declared.Bench.{Bench}
+use Rattle.driver_layout.specs.Layout.{lane_length, bench_length, lane_in, slots_in, bench_in}
+use Rattle.driver_layout.proofs.Turns.{bench_with, slots_on, slots_end}
+use Rattle.driver_layout.proofs.whole_bench.Given as goal
+
+abbrev pub invariant-loop-i : goal.invariant-loop-i
+invariant-loop-i l =
+    ((l.i ≤ lane_count) × (l.at ≡ 1 + lane_length * l.i) × (length l.slots ≡ lane_count) × (length l.bytes ≡ bench_length))
+    × (take l.i l.slots ++ slots_in (lane_count - l.i) (drop l.at l.bytes) ≡ slots_in lane_count (drop 1 l.bytes))
+
+abbrev pub decreases-loop-i : goal.decreases-loop-i
+decreases-loop-i l = lane_count - l.i

@@ -1,0 +1,17 @@
+use mathlib.Core.Path.{◌≡◌, refl, sym, ◌∙◌}
+use mathlib.Core.List.{◌++◌}
+use Prim.Native.Nat.{◌+◌, ◌*◌, ◌-◌, ◌≤◌, ◌<◌}
+use native.Mathlib.Omega.{arith}
+use lib.ListN.{length, take, drop, length-set, length-map}
+use Rattle.katan.specs.Sizes.{lane_count}
+use Rattle.driver_layout.specs.Layout.{lane_length, bench_length, slot_bytes, bench_bytes}
+use Rattle.driver_layout.proofs.Turns.{bench_start, lanes_on, lanes_end}
+use Rattle.driver_layout.proofs.write_bench.Given as goal
+
+abbrev pub invariant-loop-i : goal.invariant-loop-i
+invariant-loop-i l =
+    ((l.i ≤ lane_count) × (l.at ≡ 1 + lane_length * l.i) × (length l.slots ≡ lane_count) × (length l.out ≡ bench_length))
+    × (take l.at l.out ++ slot_bytes (drop l.i l.slots) (drop l.at l.out) ≡ take 1 l.initial.out ++ slot_bytes l.slots (drop 1 l.initial.out))
+
+abbrev pub decreases-loop-i : goal.decreases-loop-i
+decreases-loop-i l = lane_count - l.i
