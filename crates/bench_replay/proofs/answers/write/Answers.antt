@@ -1,0 +1,25 @@
+use mathlib.Core.Path.{ap, ◌∙◌}
+use mathlib.Core.List.{[]}
+use native.Mathlib.Omega.{arith}
+use lib.ListN.{length, length-set}
+use Rattle.bench_replay.specs.Encoding.{answer_length}
+use Rattle.bench_replay.proofs.Writing.{length_over, fields_length, first_put, fields_put}
+use borrow.Author.Rules.{rules}
+use Rattle.bench_replay.proofs.answers.write.Goals as goal
+
+pub slice_bounds-put_number-end : goal.slice_bounds-put_number-end
+slice_bounds-put_number-end c = simp length-set (omega arith)
+
+pub slice_bounds-put_number-end-2 : goal.slice_bounds-put_number-end-2
+slice_bounds-put_number-end-2 c =
+    let e = first_put c.args.out.now c.args.at c.args.answer.kind c.args.answer.first 0 c.requires c.put_number.new.out [] c.put_number.ensures in
+    omega (arith, e)
+
+pub shape_of-out : goal.shape_of-out
+shape_of-out c =
+    let e = fields_put c.args.out.now c.args.at c.args.answer.kind c.args.answer.first c.args.answer.second c.requires c.put_number.new.out c.put_number-2.new.out c.put_number.ensures c.put_number-2.ensures in
+    ap length e ∙ length_over c.args.out.now c.args.at _ answer_length (fields_length _ _ _) c.requires
+
+pub returns : goal.returns
+returns c =
+    fields_put c.args.out.now c.args.at c.args.answer.kind c.args.answer.first c.args.answer.second c.requires c.put_number.new.out c.put_number-2.new.out c.put_number.ensures c.put_number-2.ensures

@@ -1,0 +1,11 @@
+use mathlib.Core.Path.{refl}
+use Rattle.katan.proofs.Words.{two_words}
+use borrow.Author.Rules.{rules}
+use Rattle.driver_reads.proofs.put_reading.Goals as goal
+
+pub returns-in-At : goal.returns-in-At
+returns-in-At c =
+    record {
+      value = rw c.in-At.is;
+      answer_after = rw c.in-At.is (two_words _ _ c.args.answer.now c.requires);
+    }
