@@ -40,6 +40,7 @@ unfolding read_call
 returns c =
     let a = c.args in
     let is = bench_read a.bench.now c.bench_in-found.result c.if-bench-ne-BENCH_LENGTH.false c.bench_in-found.ensures in
-    let both = rw (eq-eqb _ _ c.if-bench-ne-BENCH_LENGTH.false, held a.bench.now c.bench_in-found.result c.if-bench-ne-BENCH_LENGTH.false c.bench_in-found.ensures c.bad_bench.ensures c.if-bad_bench.false, eq-eqb _ _ c.if-answer-ne-READING_WORDS.false)
-    (same_answer response_words a.answer.now (c.read.ensures ∙ ap (λ (x : Bench). read_of x a.lane) is) c.put_reading.ensures) in
-    record { value = both.0; answer_after = both.1 }
+    record {
+      value = rw (eq-eqb _ _ c.if-bench-ne-BENCH_LENGTH.false, held a.bench.now c.bench_in-found.result c.if-bench-ne-BENCH_LENGTH.false c.bench_in-found.ensures c.bad_bench.ensures c.if-bad_bench.false, eq-eqb _ _ c.if-answer-ne-READING_WORDS.false) (((same_answer response_words a.answer.now (c.read.ensures ∙ ap (λ (x : Bench). read_of x a.lane) is) (c.put_reading.ensures.value, c.put_reading.ensures.answer_after))).0);
+      answer_after = rw (eq-eqb _ _ c.if-bench-ne-BENCH_LENGTH.false, held a.bench.now c.bench_in-found.result c.if-bench-ne-BENCH_LENGTH.false c.bench_in-found.ensures c.bad_bench.ensures c.if-bad_bench.false, eq-eqb _ _ c.if-answer-ne-READING_WORDS.false) (((same_answer response_words a.answer.now (c.read.ensures ∙ ap (λ (x : Bench). read_of x a.lane) is) (c.put_reading.ensures.value, c.put_reading.ensures.answer_after))).1);
+    }

@@ -26,4 +26,4 @@ returns c =
     let a = c.args in
     let is = bench_read a.bench.now c.bench_in-found.result c.if-bench-ne-BENCH_LENGTH.false c.bench_in-found.ensures in
     same_screen a.bench.now a.mask a.out.now a.shown.now c.if-bench-ne-BENCH_LENGTH.false c.if-shown-ne-SHOWN_WORDS.false
-    c.bench_in-found.result (screen_outcome c.screen.result) is c.screen.ensures.result_value c.screen.ensures.out_after c.put_shown.ensures
+    c.bench_in-found.result (screen_outcome c.screen.result) is c.screen.ensures.result_value c.screen.ensures.out_after (c.put_shown.ensures.value, c.put_shown.ensures.shown_after)

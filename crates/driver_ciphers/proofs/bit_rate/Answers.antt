@@ -1,0 +1,11 @@
+use mathlib.Core.Path.{◌∙◌}
+use Rattle.driver_ciphers.specs.Calls.{lent_checks, word}
+use Rattle.driver_ciphers.proofs.Words.{answered}
+use borrow.Author.Rules.{rules}
+use Rattle.driver_ciphers.proofs.bit_rate.Goals as goal
+
+pub returns : goal.returns
+returns c =
+    let a = c.args in
+    let both = answered word (lent_checks a.variant 1 a.out.now) a.out.now (c.rate_word.ensures ∙ c.bit_rate-rate.ensures) (c.put_word.ensures.value, c.put_word.ensures.out_after) in
+    record { value = both.0; out_after = both.1 }
