@@ -6,7 +6,7 @@ ghost use Rattle.std.specs.Prelude.{◌*◌, ◌<◌, ◌≤◌, length};
 
 use katan_registers::Answer;
 use lanes::Direction;
-use libc::STDOUT_FILENO;
+use std::io;
 
 // Xorshift.
 fn next(x: u64) -> u64 {
@@ -118,31 +118,24 @@ fn digest(out: &[u64]) -> u64 {
     h
 }
 
-fn print_digest(out: &[u64]) {
-    io::write_all(STDOUT_FILENO, b" ");
-    io::print_hex(STDOUT_FILENO, digest(out), 16);
-    io::write_all(STDOUT_FILENO, b"\n");
+fn print_digest(rt: &HostRuntime, out: &[u64]) -> io::Result<()> {
+    let all = digest(out);
+    println!(rt; " {all:016x}")
 }
 
-fn print_direction(direction: Direction) {
+fn print_direction(rt: &HostRuntime, direction: Direction) -> io::Result<()> {
     match direction {
-        Direction::Encrypt => {
-            io::write_all(STDOUT_FILENO, b"e ");
-        }
-        Direction::Decrypt => {
-            io::write_all(STDOUT_FILENO, b"d ");
-        }
+        Direction::Encrypt => print!(rt; "e "),
+        Direction::Decrypt => print!(rt; "d "),
     }
 }
 
-fn print_answer(a: lanes::Answer) {
+fn print_answer(rt: &HostRuntime, a: lanes::Answer) -> io::Result<()> {
     match a {
-        lanes::Answer::Done => {
-            io::write_all(STDOUT_FILENO, b"done");
-        }
+        lanes::Answer::Done => print!(rt; "done"),
         lanes::Answer::Refused(r) => {
-            io::write_all(STDOUT_FILENO, b"refused ");
-            io::print_decimal(STDOUT_FILENO, katan_variants::refusal_number(r) as u64);
+            let number = katan_variants::refusal_number(r);
+            print!(rt; "refused {number}")
         }
     }
 }
@@ -156,7 +149,7 @@ fn direction_of(k: usize) -> Direction {
 }
 
 // Batch k: 64 lengths for each variant, 6 variants each way.
-fn batch(k: usize)
+fn batch(rt: &HostRuntime, k: usize) -> io::Result<()>
     requires { k < 768 }
 {
     let n = k % 64 + 1;
@@ -167,18 +160,23 @@ fn batch(k: usize)
     let blocks = block_values(seed + 1001, unused_bits(variant));
     let mut out = [0u64; 64];
     let answer = many(direction, variant, &keys, 10 * n, &blocks, n, &mut out, n);
-    print_direction(direction);
-    io::print_decimal(STDOUT_FILENO, variant as u64);
-    io::write_all(STDOUT_FILENO, b" ");
-    io::print_decimal(STDOUT_FILENO, n as u64);
+    print_direction(rt, direction)?;
+    print!(rt; "{variant} {n}")?;
     if !agree(direction, variant, &keys, &blocks, &out, n) {
-        io::write_all(STDOUT_FILENO, b" differs");
+        print!(rt; " differs")?;
     }
-    print_digest(&out);
+    print_digest(rt, &out)
 }
 
 // A call with zero keys and equal blocks, on outputs that are all 7.
-fn call(variant: u8, bytes: usize, count: usize, results: usize, block: u64)
+fn call(
+    rt: &HostRuntime,
+    variant: u8,
+    bytes: usize,
+    count: usize,
+    results: usize,
+    block: u64,
+) -> io::Result<()>
     requires { (bytes ≤ 650) × (count ≤ 65) × (results ≤ 65) }
 {
     let keys = [0u8; 650];
@@ -194,24 +192,25 @@ fn call(variant: u8, bytes: usize, count: usize, results: usize, block: u64)
         &mut out,
         results,
     );
-    print_answer(answer);
-    print_digest(&out);
+    print_answer(rt, answer)?;
+    print_digest(rt, &out)
 }
 
-fn main() {
+fn main(rt: HostRuntime) -> io::Result<()> {
     for k in 0..768 {
-        batch(k);
+        batch(&rt, k)?;
     }
-    call(0, 0, 0, 1, 0x1_0000_0000);
-    call(7, 10, 1, 1, 0);
-    call(1, 0, 0, 0, 0);
-    call(1, 650, 65, 65, 0);
-    call(1, 9, 1, 1, 0x1_0000_0000);
-    call(1, 20, 1, 1, 0);
-    call(1, 10, 1, 2, 0);
-    call(1, 10, 1, 0, 0);
-    call(1, 10, 1, 1, 0x1_0000_0000);
-    call(5, 640, 64, 64, 0x1_0000_0000_0000);
-    call(3, 10, 1, 1, 18446744073709551615);
-    call(4, 20, 2, 2, 0xffff_ffff);
+    call(&rt, 0, 0, 0, 1, 0x1_0000_0000)?;
+    call(&rt, 7, 10, 1, 1, 0)?;
+    call(&rt, 1, 0, 0, 0, 0)?;
+    call(&rt, 1, 650, 65, 65, 0)?;
+    call(&rt, 1, 9, 1, 1, 0x1_0000_0000)?;
+    call(&rt, 1, 20, 1, 1, 0)?;
+    call(&rt, 1, 10, 1, 2, 0)?;
+    call(&rt, 1, 10, 1, 0, 0)?;
+    call(&rt, 1, 10, 1, 1, 0x1_0000_0000)?;
+    call(&rt, 5, 640, 64, 64, 0x1_0000_0000_0000)?;
+    call(&rt, 3, 10, 1, 1, 18446744073709551615)?;
+    call(&rt, 4, 20, 2, 2, 0xffff_ffff)?;
+    Ok(())
 }

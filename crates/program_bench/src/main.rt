@@ -5,8 +5,8 @@
 ghost use Rattle.std.specs.Prelude.{◌≡◌, ◌≤◌, length};
 ghost use Rattle.script.specs.Pieces.{on_bytes, all_taken, answered_as, written_to, piece_length, output_length};
 
-use libc::{STDERR_FILENO, STDIN_FILENO, STDOUT_FILENO};
 use script::{Answered, OUTPUT, PIECE, Script};
+use std::io::{Read, Write};
 
 // The script, and how it goes on.
 #[derive(Clone, Copy)]
@@ -22,18 +22,22 @@ fn output() -> [u8; OUTPUT]
     [0; OUTPUT]
 }
 
+// Says on standard error what has failed; that this can fail too is left at that.
+fn say(rt: &HostRuntime, words: &[u8]) {
+    let _ = rt.stderr().write_all(words);
+}
+
 // Writes the first bytes of an output; false where that fails.
-fn write(out: &[u8], count: usize) -> bool
+fn write(rt: &HostRuntime, out: &[u8], count: usize) -> bool
     requires { count ≤ length out.now }
 {
-    if io::write_all(STDOUT_FILENO, &out[..count]) {
-        return true;
+    match rt.stdout().write_all(&out[..count]) {
+        Ok(()) => true,
+        Err(_) => {
+            say(rt, b"katan-bench: standard output could not be written\n");
+            false
+        }
     }
-    io::write_all(
-        STDERR_FILENO,
-        b"katan-bench: standard output could not be written\n",
-    );
-    false
 }
 
 // All of a piece: the output has room for every line that ends in it.
@@ -45,42 +49,39 @@ fn answer_all(script: Script, piece: &[u8], out: &mut [u8]) -> Answered
 }
 
 // Reads a piece and answers it, before the next read may wait: a driver waits for each answer.
-fn turn(script: Script, out: &mut [u8]) -> State
+fn turn(rt: &HostRuntime, script: Script, out: &mut [u8]) -> State
     requires { output_length ≡ length out.old }
 {
-    let mut piece: [u8; PIECE] = io::buffer();
-    let got = libc::read(STDIN_FILENO, &mut piece);
-    if got < 0 {
-        io::write_all(
-            STDERR_FILENO,
-            b"katan-bench: standard input could not be read\n",
-        );
-        return State {
-            script,
-            is_input_open: false,
-            has_failed: true,
-        };
-    }
-    let n = io::count(got, &piece);
-    if n == 0 {
-        return State {
+    let mut piece = [0u8; PIECE];
+    match rt.stdin().read(&mut piece) {
+        Err(_) => {
+            say(rt, b"katan-bench: standard input could not be read\n");
+            State {
+                script,
+                is_input_open: false,
+                has_failed: true,
+            }
+        }
+        Ok(0) => State {
             script,
             is_input_open: false,
             has_failed: false,
-        };
-    }
-    let answered = answer_all(script, &piece[..n], out);
-    let next = answered.script;
-    let is_written = write(out, answered.count);
-    State {
-        script: next,
-        is_input_open: true,
-        has_failed: !is_written,
+        },
+        Ok(n) => {
+            let answered = answer_all(script, &piece[..n], out);
+            let next = answered.script;
+            let is_written = write(rt, out, answered.count);
+            State {
+                script: next,
+                is_input_open: true,
+                has_failed: !is_written,
+            }
+        }
     }
 }
 
 // The turns are counted down, so that the loop ends; they are more than any input has pieces.
-fn run(script: Script, out: &mut [u8]) -> State
+fn run(rt: &HostRuntime, script: Script, out: &mut [u8]) -> State
     requires { output_length ≡ length out.old }
 {
     let mut state = State {
@@ -91,19 +92,19 @@ fn run(script: Script, out: &mut [u8]) -> State
     let mut turns = u64::MAX;
     while 0 < turns && state.is_input_open && !state.has_failed {
         let now = state.script;
-        state = turn(now, out);
+        state = turn(rt, now, out);
         turns -= 1;
     }
     state
 }
 
-fn main() {
+fn main(rt: HostRuntime) {
     let mut out = output();
-    let last = run(script::start(), &mut out);
+    let last = run(&rt, script::start(), &mut out);
     let now = last.script;
     if !last.has_failed {
         let printed = script::finish(now);
         let bytes = printed.bytes;
-        write(&bytes, printed.length);
+        write(&rt, &bytes, printed.length);
     }
 }

@@ -15,13 +15,14 @@
 // and a line of another form, or an a or r line before any bench, by `bad line`.
 #![tactic(auto)]
 
-ghost use Rattle.std.specs.Prelude.{◌≡◌, ◌≤◌, length};
+ghost use Rattle.std.specs.Prelude.{◌≡◌, ◌≤◌, length, IfOk};
 
 use bench::{Bench, Link, ReadAnswer, Reply};
 use bench_fresh::OpenAnswer;
 use katan::{Key, Refusal, RoundPosition};
 use katan_registers::Answer;
-use libc::{STDIN_FILENO, STDOUT_FILENO};
+use std::io;
+use std::io::Read;
 
 // The most bytes of a key or a record on a line.
 const MOST_BYTES: usize = 80;
@@ -375,61 +376,47 @@ fn turn_of(session: Session, line: &[u8]) -> Turn {
     }
 }
 
-fn print_word(word: &[u8], n: u64) {
-    io::write_all(STDOUT_FILENO, word);
-    io::print_decimal(STDOUT_FILENO, n);
+fn print_refusal(rt: &HostRuntime, r: Refusal) -> io::Result<()> {
+    let number = katan_variants::refusal_number(r);
+    print!(rt; "refused {number}")
 }
 
-fn print_refusal(r: Refusal) {
-    print_word(b"refused ", katan_variants::refusal_number(r) as u64);
-}
-
-fn print_answer(a: Answer) {
+fn print_answer(rt: &HostRuntime, a: Answer) -> io::Result<()> {
     match a {
-        Answer::Block(block) => {
-            io::print_hex(STDOUT_FILENO, block, 16);
-        }
-        Answer::Refused(r) => print_refusal(r),
+        Answer::Block(block) => print!(rt; "{block:016x}"),
+        Answer::Refused(r) => print_refusal(rt, r),
     }
 }
 
-fn print_reply(r: Reply) {
+fn print_reply(rt: &HostRuntime, r: Reply) -> io::Result<()> {
     match r {
-        Reply::Done { number, total } => {
-            print_word(b"done ", number as u64);
-            print_word(b" ", total as u64);
-        }
-        Reply::Again { number, total } => {
-            print_word(b"again ", number as u64);
-            print_word(b" ", total as u64);
-        }
-        Reply::Refused(r) => print_refusal(r),
+        Reply::Done { number, total } => print!(rt; "done {number} {total}"),
+        Reply::Again { number, total } => print!(rt; "again {number} {total}"),
+        Reply::Refused(r) => print_refusal(rt, r),
     }
 }
 
-fn print_reading(r: ReadAnswer) {
+fn print_reading(rt: &HostRuntime, r: ReadAnswer) -> io::Result<()> {
     match r {
         ReadAnswer::At(reading) => {
-            print_word(b"at ", reading.position.0 as u64);
-            io::write_all(STDOUT_FILENO, b" ");
-            io::print_hex(STDOUT_FILENO, reading.registers, 16);
+            let position = reading.position.0;
+            let registers = reading.registers;
+            print!(rt; "at {position} {registers:016x}")
         }
-        ReadAnswer::Refused(r) => print_refusal(r),
+        ReadAnswer::Refused(r) => print_refusal(rt, r),
     }
 }
 
-fn print(o: Outcome) {
+fn print(rt: &HostRuntime, o: Outcome) -> io::Result<()> {
     match o {
-        Outcome::Answered(a) => print_answer(a),
-        Outcome::Opened(variant) => print_word(b"bench ", variant as u64),
-        Outcome::Arrived(r) => print_reply(r),
-        Outcome::Reading(r) => print_reading(r),
-        Outcome::Refused(r) => print_refusal(r),
-        Outcome::BadLine => {
-            io::write_all(STDOUT_FILENO, b"bad line");
-        }
+        Outcome::Answered(a) => print_answer(rt, a)?,
+        Outcome::Opened(variant) => print!(rt; "bench {variant}")?,
+        Outcome::Arrived(r) => print_reply(rt, r)?,
+        Outcome::Reading(r) => print_reading(rt, r)?,
+        Outcome::Refused(r) => print_refusal(rt, r)?,
+        Outcome::BadLine => print!(rt; "bad line")?,
     }
-    io::write_all(STDOUT_FILENO, b"\n");
+    println!(rt; "")
 }
 
 // The bench and link before any b line, which no call meets.
@@ -445,22 +432,22 @@ fn first_session() -> Session {
 }
 
 // Answers a line, and gives the session for the next.
-fn answer(session: Session, line: &[u8]) -> Session {
+fn answer(rt: &HostRuntime, session: Session, line: &[u8]) -> io::Result<Session> {
     let t = turn_of(session, line);
-    let outcome = t.outcome;
-    print(outcome);
-    t.session
+    print(rt, t.outcome)?;
+    Ok(t.session)
 }
 
 // Answers each line; the last needs no line feed.
-fn run(input: &[u8]) {
+fn run(rt: &HostRuntime, input: &[u8]) -> io::Result<()> {
     let mut session = first_session();
     let mut at = 0;
     while at < input.len() {
         let end = find(input, at, b'\n');
-        session = answer(session, &input[at..end]);
+        session = answer(rt, session, &input[at..end])?;
         at = end + 1;
     }
+    Ok(())
 }
 
 fn input_buffer() -> [u8; 1048576]
@@ -469,9 +456,25 @@ fn input_buffer() -> [u8; 1048576]
     [0; 1048576]
 }
 
+// Reads until the input ends or the buffer is full, and says how many bytes were read.
+fn read_full(rt: &HostRuntime, buffer: &mut [u8]) -> io::Result<usize>
+    ensures { IfOk result (λ n. n ≤ length buffer.new) }
+{
+    let mut stdin = rt.stdin();
+    let mut at = 0;
+    while at < buffer.len() {
+        let n = stdin.read(&mut buffer[at..])?;
+        if n == 0 {
+            break;
+        }
+        at += n;
+    }
+    Ok(at)
+}
+
 // Input past the buffer's length is not read.
-fn main() {
+fn main(rt: HostRuntime) -> io::Result<()> {
     let mut input = input_buffer();
-    let n = io::read_full(STDIN_FILENO, &mut input);
-    run(&input[..n]);
+    let n = read_full(&rt, &mut input)?;
+    run(&rt, &input[..n])
 }
