@@ -5,7 +5,7 @@
 -- Any other byte stands for itself.
 -- Assumes nothing.
 use Rattle.std.specs.Prelude.{ℕ, ◌≤◌, ◌<◌, ◌^◌, ◌/◌, List, [], ◌∷◌, ◌++◌, eqb}
-use Prim.Native.Char.{Char, code}
+use Prim.Native.Char.{code}
 use Prim.Native.String as Str
 use Prim.Native.String.{String}
 use Rattle.katan.specs.Bit.{pick}

@@ -1,13 +1,10 @@
 use mathlib.Core.Path.{◌≡◌, refl, sym, ◌∙◌}
-use mathlib.Core.List.{map}
-use Prim.Native.Nat.{ℕ, ◌-◌, ◌≤◌, ◌<◌}
+use Prim.Native.Nat.{◌≤◌, ◌<◌}
 use native.Mathlib.Omega.{arith}
-use lib.ListN.{length, drop, length-map, drop_of_length-le}
+use lib.ListN.{length, drop_of_length-le}
 use borrow.Author.Rules.{rules}
-use Rattle.katan.specs.Variant.{width_of}
 use Rattle.katan.specs.Sizes.{lane_count}
 use Rattle.bench.specs.Checks.{any_lane_fault}
-use Rattle.bench.specs.Bench.{slot_view}
 use Rattle.bench.proofs.Loops.{faults_on}
 use Rattle.bench_checks.proofs.any_lane_fault.Goals as goal
 

@@ -1,14 +1,11 @@
-use mathlib.Core.Path.{◌≡◌, refl, sym, ◌∙◌}
+use mathlib.Core.Path.{◌≡◌}
 use mathlib.Core.List.{map}
-use Prim.Native.Nat.{ℕ, ◌-◌, ◌≤◌, ◌<◌}
-use native.Mathlib.Omega.{arith}
-use lib.ListN.{length, drop, length-map, drop_of_length-le}
-use borrow.Author.Rules.{rules}
+use Prim.Native.Nat.{ℕ, ◌-◌, ◌≤◌}
+use lib.ListN.{length, drop}
 use Rattle.katan.specs.Variant.{width_of}
 use Rattle.katan.specs.Sizes.{lane_count}
 use Rattle.bench.specs.Checks.{any_lane_fault}
 use Rattle.bench.specs.Bench.{slot_view}
-use Rattle.bench.proofs.Loops.{faults_on}
 use Rattle.bench_checks.proofs.any_lane_fault.Given as goal
 
 abbrev pub invariant-loop-i : goal.invariant-loop-i

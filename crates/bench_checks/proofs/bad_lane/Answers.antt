@@ -4,7 +4,6 @@ use Rattle.katan.proofs.Booleans.{or_false}
 use Rattle.katan.proofs.Variants.{row_found, row_refused}
 use Rattle.bench.specs.Checks.{lane_fault, any_lane_fault}
 use Rattle.bench.specs.Bench.{lane_view}
-use borrow.Author.Rules.{rules}
 use Rattle.bench_checks.proofs.bad_lane.Goals as goal
 
 pub returns-in-Found : goal.returns-in-Found

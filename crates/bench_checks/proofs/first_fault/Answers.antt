@@ -5,12 +5,9 @@ use Rattle.katan.specs.Checks.{Outcome, value, checked}
 use Rattle.bench_record.specs.declared.Record.{Record}
 use Rattle.bench_record.specs.Fields.{decode}
 use Rattle.bench_record.specs.Checks.{field_checks}
-use Rattle.bench.specs.Checks.{Turn, counts, repeats, decision}
-use Rattle.bench.specs.Bench.{bench_view}
-use Rattle.bench_fields.specs.Answers.{field_outcome}
+use Rattle.bench.specs.Checks.{counts, repeats}
 use Rattle.bench_checks.specs.Decision.{decision_outcome}
 use Rattle.bench_checks.proofs.Decisions.{refused_1, refused_2, refused_9_10, form_decides}
-use borrow.Author.Rules.{rules}
 use Rattle.bench_checks.proofs.first_fault.Goals as goal
 
 pub returns-then-bad : goal.returns-then-bad

@@ -3,7 +3,6 @@ use Rattle.katan.specs.Checks.{value}
 use Rattle.katan.proofs.Checked.{no_fault_found, all_passed, fault_found}
 use Rattle.bench_fields.specs.Answers.{field_outcome}
 use Rattle.bench_checks.specs.Decision.{decision_outcome}
-use borrow.Author.Rules.{rules}
 use Rattle.bench_checks.proofs.in_form.Goals as goal
 
 pub returns-in-Sound : goal.returns-in-Sound

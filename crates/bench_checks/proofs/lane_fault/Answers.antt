@@ -1,7 +1,6 @@
 use borrow.Author.Tests.{lt-ltb, le-ltb}
 use Rattle.katan.specs.Counter.{rounds}
 use Rattle.bench.specs.Checks.{lane_fault}
-use borrow.Author.Rules.{rules}
 use Rattle.bench_checks.proofs.lane_fault.Goals as goal
 
 pub returns-then-p-gt-ROUNDS : goal.returns-then-p-gt-ROUNDS

@@ -1,12 +1,11 @@
 use mathlib.Core.Path.{◌≡◌, sym, ap, ◌∙◌}
-use Prim.Native.Nat.{ℕ, ◌+◌}
+use Prim.Native.Nat.{ℕ}
 use mathlib.Core.List.{List}
 use Rattle.bench_record.specs.declared.Record.{Record}
 use Rattle.bench_record.specs.Fields.{decode}
 use Rattle.katan.specs.Checks.{Outcome, value}
 use Rattle.bench.specs.Checks.{Turn, turn_of}
 use Rattle.bench.proofs.Turns.{turn_counts, none_last, other_number, turn_repeats, other_bytes}
-use borrow.Author.Rules.{rules}
 use Rattle.bench_checks.proofs.turn.Goals as goal
 
 -- where checks 9 and 10 find no fault

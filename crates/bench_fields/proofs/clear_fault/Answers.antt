@@ -8,7 +8,6 @@ use Rattle.bench_record.specs.declared.Record.{Record}
 use Rattle.bench_record.specs.Fields.{clear}
 use Rattle.bench_record.specs.Checks.{nonzero, unknown, unused, zero_bytes, load_fields, wrong_count, none_named, checks_of}
 use Rattle.bench_fields.proofs.Tests.{nonzero_true, nonzero_false, after_4}
-use borrow.Author.Rules.{rules}
 use Rattle.bench_fields.proofs.clear_fault.Goals as goal
 
 pub returns-then-zero_bytes : goal.returns-then-zero_bytes

@@ -5,7 +5,6 @@ use Rattle.katan.specs.Checks.{Outcome, value, checked}
 use Rattle.bench_record.specs.Fields.{Kind}
 use Rattle.bench_record.specs.Checks.{unknown, unused, wrong_count, none_named, checks_of}
 use Rattle.bench_record.proofs.ByKind.{is_load, is_forward, is_back, is_clear, is_other}
-use borrow.Author.Rules.{rules}
 use Rattle.bench_fields.proofs.field_fault.Goals as goal
 
 -- what the checks answer of a record, as of kind k

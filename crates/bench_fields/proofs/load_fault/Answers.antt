@@ -13,7 +13,6 @@ use Rattle.bench_record.specs.declared.Record.{Record}
 use Rattle.bench_record.specs.Fields.{load}
 use Rattle.bench_record.specs.Checks.{nonzero, unknown, unused, zero_bytes, wrong_count, none_named, checks_of}
 use Rattle.bench_fields.proofs.Tests.{nonzero_true, nonzero_false}
-use borrow.Author.Rules.{rules}
 use Rattle.bench_fields.proofs.load_fault.Goals as goal
 
 pub returns-then-zero_bytes : goal.returns-then-zero_bytes

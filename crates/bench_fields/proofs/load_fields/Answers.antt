@@ -1,8 +1,5 @@
-use mathlib.Core.Path.{◌≡◌}
-use mathlib.Core.Bool.{false}
 use native.Mathlib.Omega.{arith}
 use Rattle.katan.specs.Key.{key_number}
-use Rattle.bench_record.specs.Checks.{nonzero}
 use Rattle.bench_fields.proofs.Tests.{nonzero_true, nonzero_false}
 use Rattle.bench_fields.proofs.load_fields.Goals as goal
 

@@ -1,4 +1,3 @@
-use borrow.Author.Rules.{rules}
 use Rattle.bench_fresh.proofs.open.Goals as goal
 
 pub returns : goal.returns

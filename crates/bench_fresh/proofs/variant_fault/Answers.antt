@@ -1,7 +1,6 @@
 use mathlib.Core.Path.{ap}
 use Rattle.katan.specs.Checks.{refused}
 use Rattle.katan.proofs.Variants.{row_found, row_refused}
-use borrow.Author.Rules.{rules}
 use Rattle.bench_fresh.proofs.variant_fault.Goals as goal
 
 pub returns-in-Found : goal.returns-in-Found

@@ -1,7 +1,6 @@
 use native.Mathlib.Omega.{arith}
 use Rattle.bench.specs.Steps.{back_lane, back_moved}
 use Rattle.bench_moves.proofs.Sound.{held, held_in}
-use borrow.Author.Rules.{rules}
 use Rattle.bench_moves.proofs.back_lane.Goals as goal
 
 pub loaded_at-next-requires : goal.loaded_at-next-requires

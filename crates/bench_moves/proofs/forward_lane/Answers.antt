@@ -1,6 +1,5 @@
 use Rattle.bench.specs.Steps.{forward_lane, forward_moved}
 use Rattle.bench_moves.proofs.Sound.{held, held_in}
-use borrow.Author.Rules.{rules}
 use Rattle.bench_moves.proofs.forward_lane.Goals as goal
 
 pub ahead-d-requires : goal.ahead-d-requires

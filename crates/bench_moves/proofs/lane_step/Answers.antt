@@ -1,6 +1,5 @@
 use mathlib.Core.Path.{sym, ◌∙◌}
 use Rattle.bench_moves.specs.Moves.{step_lane, move_lane}
-use borrow.Author.Rules.{rules}
 use Rattle.bench_moves.proofs.lane_step.Goals as goal
 
 pub returns-then-bad_lane : goal.returns-then-bad_lane

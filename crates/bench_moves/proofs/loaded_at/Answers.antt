@@ -2,7 +2,6 @@ use Prim.Native.Nat.{ℕ}
 use mathlib.Core.Path.{ap}
 use Rattle.bench.specs.Steps.{loaded_at}
 use Rattle.bench_moves.proofs.Sound.{already, is_block, not_refused}
-use borrow.Author.Rules.{rules}
 use Rattle.bench_moves.proofs.loaded_at.Goals as goal
 
 pub returns-then-from-p : goal.returns-then-from-p

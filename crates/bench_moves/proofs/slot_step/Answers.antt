@@ -1,5 +1,4 @@
 use borrow.Author.Tests.{eq-eqb, ne_eqb}
-use borrow.Author.Rules.{rules}
 use Rattle.bench_moves.proofs.slot_step.Goals as goal
 
 pub returns-then-bit-eq1 : goal.returns-then-bit-eq1

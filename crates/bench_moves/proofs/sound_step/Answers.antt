@@ -1,4 +1,3 @@
-use borrow.Author.Rules.{rules}
 use Rattle.bench_moves.proofs.sound_step.Goals as goal
 
 pub returns-in-Forward : goal.returns-in-Forward

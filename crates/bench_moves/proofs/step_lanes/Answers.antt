@@ -1,8 +1,8 @@
 use mathlib.Core.Path.{◌≡◌, refl, ◌∙◌}
-use mathlib.Core.List.{[], ◌++◌, append-nil}
-use Prim.Native.Nat.{◌+◌, ◌*◌, ◌-◌, ◌≤◌, ◌<◌}
+use mathlib.Core.List.{[], append-nil}
+use Prim.Native.Nat.{◌≤◌, ◌<◌}
 use native.Mathlib.Omega.{arith}
-use lib.ListN.{length, take, drop, length-set, drop_of_length-le, length-map}
+use lib.ListN.{length, drop, length-set, drop_of_length-le}
 use lib.Seq.{take_all}
 use borrow.Author.Rules.{rules}
 use Rattle.katan.specs.Sizes.{lane_count}

@@ -1,13 +1,9 @@
-use mathlib.Core.Path.{◌≡◌, refl, ◌∙◌}
-use mathlib.Core.List.{[], ◌++◌, append-nil}
-use Prim.Native.Nat.{◌+◌, ◌*◌, ◌-◌, ◌≤◌, ◌<◌}
-use native.Mathlib.Omega.{arith}
-use lib.ListN.{length, take, drop, length-set, drop_of_length-le, length-map}
-use lib.Seq.{take_all}
-use borrow.Author.Rules.{rules}
+use mathlib.Core.Path.{◌≡◌}
+use mathlib.Core.List.{◌++◌}
+use Prim.Native.Nat.{◌+◌, ◌*◌, ◌-◌, ◌≤◌}
+use lib.ListN.{length, take, drop}
 use Rattle.katan.specs.Sizes.{lane_count}
 use Rattle.bench.specs.Steps.{step_slots, moved_slots}
-use Rattle.bench.proofs.Loops.{steps_on, total_on}
 use Rattle.bench_moves.specs.Moves.{step_lane, move_lane}
 use Rattle.bench_moves.proofs.step_lanes.Given as goal
 

@@ -1,8 +1,6 @@
 use mathlib.Core.Path.{refl, sym, ◌∙◌}
-use borrow.Author.Tests.{not-true, not-false}
 use Rattle.katan.proofs.Variants.{is_variant}
 use Rattle.bench_replay.proofs.Promise.{promise_1, promise_2, promise_run}
-use borrow.Author.Rules.{rules}
 use Rattle.bench_replay.proofs.replay.Goals as goal
 
 pub returns-then-bad : goal.returns-then-bad

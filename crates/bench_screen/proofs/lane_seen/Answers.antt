@@ -1,6 +1,5 @@
 use mathlib.Core.Path.{refl}
 use Rattle.bench_screen.specs.Screen.{number_shown, bit_shown}
-use borrow.Author.Rules.{rules}
 use Rattle.bench_screen.proofs.lane_seen.Goals as goal
 
 pub returns-in-Empty : goal.returns-in-Empty

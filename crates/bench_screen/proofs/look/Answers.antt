@@ -1,19 +1,17 @@
 use mathlib.Core.Path.{◌≡◌, refl, sym, ap, ◌∙◌}
 use mathlib.Core.Bool.{Bool, ◌||◌}
-use mathlib.Core.List.{List, map}
-use Prim.Native.Nat.{ℕ, ◌-◌, ◌≤◌, ◌<◌}
+use mathlib.Core.List.{map}
+use Prim.Native.Nat.{◌≤◌, ◌<◌}
 use native.Mathlib.Omega.{arith}
-use lib.ListN.{length, drop, length-set, length-map, drop_of_length-le}
+use lib.ListN.{length, length-set, drop_of_length-le}
 use borrow.Author.Rules.{rules}
 use Rattle.katan.specs.Bit.{from_bits}
-use Rattle.katan.specs.Checks.{variant_check}
 use Rattle.katan.specs.Sizes.{lane_count}
-use Rattle.katan.specs.inner.Within.{Entries}
 use Rattle.katan.proofs.Booleans.{or_false}
 use Rattle.katan.proofs.Fill.{filled, full}
-use Rattle.bench.specs.Checks.{LaneView, any_lane_fault}
+use Rattle.bench.specs.Checks.{any_lane_fault}
 use Rattle.bench.specs.Bench.{slot_view}
-use Rattle.bench_screen.specs.Screen.{number_shown, bit_shown, lane_number, lane_bit, numbers_shown, mask_shown}
+use Rattle.bench_screen.specs.Screen.{number_shown, bit_shown, lane_number, numbers_shown, mask_shown}
 use Rattle.bench_screen.proofs.Turns.{at_place, fault_turn, mask_turn, mask_fits}
 use Rattle.bench_screen.proofs.look.Goals as goal
 

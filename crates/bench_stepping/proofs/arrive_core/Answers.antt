@@ -12,8 +12,7 @@ use Rattle.bench_stepping.proofs.arrive_core.Goals as goal
 pub step-after-requires : goal.step-after-requires
 step-after-requires c =
     let a = c.args in
-    let counting : decision (bench_view a.bench a.link) a.sent.now ≡ value counts = sym (ap decision_outcome (sym c.in-Counts.is) ∙ c.decided-found.ensures.1) in
-    (
+    let counting : decision (bench_view a.bench a.link) a.sent.now ≡ value counts = sym (ap decision_outcome (sym c.in-Counts.is) ∙ c.decided-found.ensures.1) in (
       counts_sound a.bench a.link a.sent.now counting,
       rw c.decided-found.ensures.0 (counts_next (bench_view a.bench a.link) a.sent.now counting).0.lane_in,
     )

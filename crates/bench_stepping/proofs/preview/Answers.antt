@@ -1,7 +1,6 @@
 use mathlib.Core.Path.{ap}
 use Rattle.bench.specs.Bench.{Effect}
 use Rattle.bench.specs.Preview.{PreviewEffect, preview_of}
-use borrow.Author.Rules.{rules}
 use Rattle.bench_stepping.proofs.preview.Goals as goal
 
 -- what is shown of what an arrival leaves

@@ -1,6 +1,5 @@
 use mathlib.Core.Path.{sym, ◌∙◌}
 use Rattle.bench_stepping.proofs.ReadCases.{read_1, read_5, read_11, read_at}
-use borrow.Author.Rules.{rules}
 use Rattle.bench_stepping.proofs.read.Goals as goal
 
 pub returns-then-bad_bench : goal.returns-then-bad_bench

@@ -4,7 +4,6 @@ use Rattle.driver_layout.proofs.Fitted.{bench_read}
 use Rattle.driver_reads.proofs.Held.{held}
 use Rattle.driver_bench.specs.Calls.{arrive_call}
 use Rattle.driver_bench.proofs.Arrivals.{same_effect}
-use borrow.Author.Rules.{rules}
 use Rattle.driver_bench.proofs.arrive.Goals as goal
 
 pub returns-then-bench-ne-BENCH_LENGTH : goal.returns-then-bench-ne-BENCH_LENGTH

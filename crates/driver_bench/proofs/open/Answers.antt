@@ -4,7 +4,6 @@ use Rattle.bench.specs.declared.Bench.{Bench}
 use Rattle.bench.specs.declared.Link.{Link}
 use Rattle.driver_layout.specs.Layout.{bench_bytes, link_bytes}
 use Rattle.katan.proofs.Copies.{it_fits}
-use borrow.Author.Rules.{rules}
 use Rattle.driver_bench.proofs.open.Goals as goal
 
 pub returns-then-bad_variant : goal.returns-then-bad_variant

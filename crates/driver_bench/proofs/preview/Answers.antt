@@ -15,7 +15,6 @@ use Rattle.driver_reads.proofs.Held.{either}
 use Rattle.driver_bench.specs.Calls.{arrive_call, preview_call}
 use Rattle.driver_bench.proofs.Held.{found_by_itself}
 use Rattle.driver_bench.proofs.Previews.{copied, wrong_size, right_size, same_preview}
-use borrow.Author.Rules.{rules}
 use Rattle.driver_bench.proofs.preview.Goals as goal
 
 pub returns-then-bench-ne-BENCH_LENGTH : goal.returns-then-bench-ne-BENCH_LENGTH

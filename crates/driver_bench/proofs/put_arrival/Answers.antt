@@ -1,6 +1,5 @@
 use mathlib.Core.Path.{refl, ◌∙◌}
 use Rattle.katan.proofs.Copies.{it_fits}
-use borrow.Author.Rules.{rules}
 use Rattle.driver_bench.proofs.put_arrival.Goals as goal
 
 pub returns-in-Done : goal.returns-in-Done

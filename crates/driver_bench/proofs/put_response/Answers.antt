@@ -1,5 +1,4 @@
 use Rattle.katan.proofs.Words.{three_words}
-use borrow.Author.Rules.{rules}
 use Rattle.driver_bench.proofs.put_response.Goals as goal
 
 pub returns : goal.returns

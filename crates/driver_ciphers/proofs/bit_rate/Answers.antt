@@ -1,7 +1,6 @@
 use mathlib.Core.Path.{◌∙◌}
 use Rattle.driver_ciphers.specs.Calls.{lent_checks, word}
 use Rattle.driver_ciphers.proofs.Words.{answered}
-use borrow.Author.Rules.{rules}
 use Rattle.driver_ciphers.proofs.bit_rate.Goals as goal
 
 pub returns : goal.returns

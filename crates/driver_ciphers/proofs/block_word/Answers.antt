@@ -1,4 +1,3 @@
-use borrow.Author.Rules.{rules}
 use Rattle.driver_ciphers.proofs.block_word.Goals as goal
 
 pub returns-in-Block : goal.returns-in-Block

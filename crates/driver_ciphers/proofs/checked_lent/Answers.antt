@@ -1,6 +1,5 @@
 use mathlib.Core.Path.{sym, ◌∙◌}
 use borrow.Author.Tests.{eq-eqb, ne_eqb}
-use borrow.Author.Rules.{rules}
 use Rattle.driver_ciphers.proofs.checked_lent.Goals as goal
 
 pub returns-then-bad_variant : goal.returns-then-bad_variant

@@ -1,6 +1,5 @@
 use mathlib.Core.Path.{ap, ◌∙◌}
 use Rattle.katan.specs.Lent.{status_of}
-use borrow.Author.Rules.{rules}
 use Rattle.driver_ciphers.proofs.keystream.Goals as goal
 
 pub returns : goal.returns

@@ -1,6 +1,5 @@
 use Rattle.driver_ciphers.specs.Calls.{lent_checks, origin_words, clock_words}
 use Rattle.driver_ciphers.proofs.Words.{answered}
-use borrow.Author.Rules.{rules}
 use Rattle.driver_ciphers.proofs.origin.Goals as goal
 
 pub returns : goal.returns

@@ -1,5 +1,4 @@
 use Rattle.katan.proofs.Words.{three_words}
-use borrow.Author.Rules.{rules}
 use Rattle.driver_ciphers.proofs.put_clock_bits.Goals as goal
 
 pub returns : goal.returns

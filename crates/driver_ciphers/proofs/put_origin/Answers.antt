@@ -2,7 +2,6 @@ use mathlib.Core.Path.{refl}
 use Rattle.katan_origin.specs.Origin.{origin_outcome}
 use Rattle.driver_ciphers.specs.Calls.{origin_words}
 use Rattle.driver_ciphers.proofs.Words.{lent_length, passes, refuses}
-use borrow.Author.Rules.{rules}
 use Rattle.driver_ciphers.proofs.put_origin.Goals as goal
 
 pub put_clock_bits-requires : goal.put_clock_bits-requires

@@ -1,4 +1,3 @@
-use borrow.Author.Rules.{rules}
 use Rattle.driver_ciphers.proofs.rate_word.Goals as goal
 
 pub returns-in-BitsPerSecond : goal.returns-in-BitsPerSecond

@@ -1,5 +1,4 @@
 use mathlib.Core.Path.{refl}
-use borrow.Author.Rules.{rules}
 use Rattle.driver_ciphers.proofs.status.Goals as goal
 
 pub returns-in-Done : goal.returns-in-Done

@@ -1,5 +1,4 @@
 use mathlib.Core.Path.{sym, ap, ◌∙◌}
-use borrow.Author.Rules.{rules}
 use Rattle.driver_layout.specs.Layout.{bench_length, bench_in}
 use Rattle.driver_layout.proofs.Fitted.{reads_whole, reads_zeros}
 use Rattle.driver_layout.proofs.bench_in.Goals as goal

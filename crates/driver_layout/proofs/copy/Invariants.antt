@@ -1,8 +1,6 @@
-use mathlib.Core.Path.{◌≡◌, refl, sym, ◌∙◌}
+use mathlib.Core.Path.{◌≡◌}
 use Prim.Native.Nat.{◌-◌, ◌≤◌}
-use native.Mathlib.Omega.{arith}
-use lib.ListN.{length, take, length-set}
-use Rattle.katan.proofs.Copies.{next_copied, all_copied}
+use lib.ListN.{length, take}
 use Rattle.driver_layout.proofs.copy.Given as goal
 
 abbrev pub invariant-loop-i : goal.invariant-loop-i

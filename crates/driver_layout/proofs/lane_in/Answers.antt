@@ -3,7 +3,6 @@ use borrow.Author.Tests.{eq-eqb, ne_eqb}
 use lib.ListN.{get_or}
 use Rattle.bench.specs.declared.Lane.TheVariants.{Held}
 use Rattle.driver_layout.specs.Layout.{lane_in}
-use borrow.Author.Rules.{rules}
 use Rattle.driver_layout.proofs.lane_in.Goals as goal
 
 pub returns-then-byte_at-eq-EMPTY : goal.returns-then-byte_at-eq-EMPTY

@@ -5,7 +5,6 @@ use Rattle.bench_record.proofs.Parts.{part_of, number_below}
 use Rattle.katan.specs.Sizes.{word_bytes}
 use Rattle.driver_layout.specs.Layout.{number_bytes, last_start, total_start, link_in}
 use Rattle.katan.proofs.Numbers.{bytes_below}
-use borrow.Author.Rules.{rules}
 use Rattle.driver_layout.proofs.link_in.Goals as goal
 
 pub overflow_cast-last : goal.overflow_cast-last

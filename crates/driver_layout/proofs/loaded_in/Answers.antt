@@ -4,7 +4,6 @@ use Rattle.bench_record.proofs.Parts.{part_of}
 use Rattle.katan.specs.Key.{key_of}
 use Rattle.katan.specs.Sizes.{word_bytes, key_bytes}
 use Rattle.driver_layout.specs.Layout.{key_start, registers_start, loaded_in}
-use borrow.Author.Rules.{rules}
 use Rattle.driver_layout.proofs.loaded_in.Goals as goal
 
 pub returns : goal.returns

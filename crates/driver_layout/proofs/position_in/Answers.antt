@@ -1,7 +1,6 @@
 use mathlib.Core.Path.{refl, sym, ◌∙◌}
 use borrow.Author.Tests.{eq-eqb, ne_eqb}
 use lib.ListN.{get_or}
-use borrow.Author.Rules.{rules}
 use Rattle.driver_layout.proofs.position_in.Goals as goal
 
 pub returns-then-byte_at-eq-LOADED : goal.returns-then-byte_at-eq-LOADED

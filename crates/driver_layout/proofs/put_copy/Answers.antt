@@ -1,6 +1,5 @@
 use mathlib.Core.Path.{sym, ◌∙◌}
 use Rattle.katan.proofs.Copies.{it_fits, no_fit}
-use borrow.Author.Rules.{rules}
 use Rattle.driver_layout.proofs.put_copy.Goals as goal
 
 pub returns-then-out-bytes : goal.returns-then-out-bytes

@@ -1,6 +1,5 @@
 use Rattle.driver_layout.specs.Layout.{loaded_state}
 use Rattle.katan.proofs.Words.{two_words}
-use borrow.Author.Rules.{rules}
 use Rattle.driver_layout.proofs.put_head.Goals as goal
 
 pub returns : goal.returns

@@ -1,6 +1,5 @@
 use mathlib.Core.Path.{refl}
 use Rattle.driver_layout.specs.Layout.{lane_bytes}
-use borrow.Author.Rules.{rules}
 use Rattle.driver_layout.proofs.put_lane.Goals as goal
 
 pub returns-in-Empty : goal.returns-in-Empty

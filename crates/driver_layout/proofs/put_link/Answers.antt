@@ -1,6 +1,5 @@
 use mathlib.Core.Path.{sym, ◌∙◌}
 use Rattle.katan.proofs.Copies.{it_fits, no_fit}
-use borrow.Author.Rules.{rules}
 use Rattle.driver_layout.proofs.put_link.Goals as goal
 
 pub returns-then-out-eq-LINK_LENGTH : goal.returns-then-out-eq-LINK_LENGTH

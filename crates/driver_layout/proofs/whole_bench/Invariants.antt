@@ -1,14 +1,9 @@
-use mathlib.Core.Path.{◌≡◌, refl, ap, ◌∙◌}
-use mathlib.Core.List.{List, ◌++◌}
-use Prim.Native.Nat.{ℕ, ◌+◌, ◌*◌, ◌-◌, ◌≤◌, ◌<◌}
-use native.Mathlib.Omega.{arith}
-use borrow.Author.Rules.{rules}
-use lib.ListN.{length, get_or, take, drop, length-set}
+use mathlib.Core.Path.{◌≡◌}
+use mathlib.Core.List.{◌++◌}
+use Prim.Native.Nat.{◌+◌, ◌*◌, ◌-◌, ◌≤◌}
+use lib.ListN.{length, take, drop}
 use Rattle.katan.specs.Sizes.{lane_count}
-use Rattle.bench.specs.declared.Slot.{Slot}
-use Rattle.bench.specs.declared.Bench.{Bench}
-use Rattle.driver_layout.specs.Layout.{lane_length, bench_length, lane_in, slots_in, bench_in}
-use Rattle.driver_layout.proofs.Turns.{bench_with, slots_on, slots_end}
+use Rattle.driver_layout.specs.Layout.{lane_length, bench_length, slots_in}
 use Rattle.driver_layout.proofs.whole_bench.Given as goal
 
 abbrev pub invariant-loop-i : goal.invariant-loop-i

@@ -1,11 +1,10 @@
 use borrow.Author.Rules.{rules}
 use mathlib.Core.Path.{◌≡◌, refl, sym, ◌∙◌}
-use mathlib.Core.List.{◌++◌}
-use Prim.Native.Nat.{◌+◌, ◌*◌, ◌-◌, ◌≤◌, ◌<◌}
+use Prim.Native.Nat.{◌+◌, ◌-◌, ◌≤◌, ◌<◌}
 use native.Mathlib.Omega.{arith}
-use lib.ListN.{length, take, drop, length-set, length-map}
+use lib.ListN.{length, length-set}
 use Rattle.katan.specs.Sizes.{lane_count}
-use Rattle.driver_layout.specs.Layout.{lane_length, bench_length, slot_bytes, bench_bytes}
+use Rattle.driver_layout.specs.Layout.{lane_length, bench_bytes}
 use Rattle.driver_layout.proofs.Turns.{bench_start, lanes_on, lanes_end}
 use Rattle.driver_layout.proofs.write_bench.Goals as goal
 

@@ -1,11 +1,9 @@
-use mathlib.Core.Path.{◌≡◌, refl, sym, ◌∙◌}
+use mathlib.Core.Path.{◌≡◌}
 use mathlib.Core.List.{◌++◌}
-use Prim.Native.Nat.{◌+◌, ◌*◌, ◌-◌, ◌≤◌, ◌<◌}
-use native.Mathlib.Omega.{arith}
-use lib.ListN.{length, take, drop, length-set, length-map}
+use Prim.Native.Nat.{◌+◌, ◌*◌, ◌-◌, ◌≤◌}
+use lib.ListN.{length, take, drop}
 use Rattle.katan.specs.Sizes.{lane_count}
-use Rattle.driver_layout.specs.Layout.{lane_length, bench_length, slot_bytes, bench_bytes}
-use Rattle.driver_layout.proofs.Turns.{bench_start, lanes_on, lanes_end}
+use Rattle.driver_layout.specs.Layout.{lane_length, bench_length, slot_bytes}
 use Rattle.driver_layout.proofs.write_bench.Given as goal
 
 abbrev pub invariant-loop-i : goal.invariant-loop-i

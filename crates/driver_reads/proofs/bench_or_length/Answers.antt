@@ -1,5 +1,4 @@
 use mathlib.Core.Path.{refl, sym, ◌∙◌}
-use borrow.Author.Rules.{rules}
 use Rattle.driver_reads.proofs.bench_or_length.Goals as goal
 
 pub returns-then-bad_bench : goal.returns-then-bad_bench

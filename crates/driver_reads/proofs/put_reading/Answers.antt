@@ -1,6 +1,4 @@
-use mathlib.Core.Path.{refl}
 use Rattle.katan.proofs.Words.{two_words}
-use borrow.Author.Rules.{rules}
 use Rattle.driver_reads.proofs.put_reading.Goals as goal
 
 pub returns-in-At : goal.returns-in-At

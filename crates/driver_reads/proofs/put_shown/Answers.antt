@@ -1,6 +1,4 @@
-use mathlib.Core.Path.{refl}
 use Rattle.katan.proofs.Words.{one_word}
-use borrow.Author.Rules.{rules}
 use Rattle.driver_reads.proofs.put_shown.Goals as goal
 
 pub returns-in-Shown : goal.returns-in-Shown

@@ -1,4 +1,4 @@
-use mathlib.Core.Path.{refl, ap, ◌∙◌}
+use mathlib.Core.Path.{ap, ◌∙◌}
 use borrow.Author.Tests.{eq-eqb, ne_eqb}
 use Rattle.bench.specs.declared.Bench.{Bench}
 use Rattle.bench.specs.Bench.{read_of}
@@ -6,7 +6,6 @@ use Rattle.driver_layout.proofs.Fitted.{bench_read}
 use Rattle.driver_reads.specs.Calls.{response_words, read_call}
 use Rattle.katan.proofs.Lent.{same_answer}
 use Rattle.driver_reads.proofs.Held.{held}
-use borrow.Author.Rules.{rules}
 use Rattle.driver_reads.proofs.read.Goals as goal
 
 pub returns-then-bench-ne-BENCH_LENGTH : goal.returns-then-bench-ne-BENCH_LENGTH

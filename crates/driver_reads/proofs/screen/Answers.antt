@@ -7,7 +7,6 @@ use Rattle.bench_screen.specs.Screen.{screen_outcome}
 use Rattle.driver_layout.proofs.Fitted.{bench_read}
 use Rattle.driver_reads.specs.Calls.{screen_call}
 use Rattle.driver_reads.proofs.Screens.{other_length, same_screen}
-use borrow.Author.Rules.{rules}
 use Rattle.driver_reads.proofs.screen.Goals as goal
 
 pub returns-then-bench-ne-BENCH_LENGTH : goal.returns-then-bench-ne-BENCH_LENGTH

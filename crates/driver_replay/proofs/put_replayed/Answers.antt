@@ -1,6 +1,5 @@
-use mathlib.Core.Path.{refl, ◌∙◌}
+use mathlib.Core.Path.{◌∙◌}
 use Rattle.katan.proofs.Copies.{it_fits}
-use borrow.Author.Rules.{rules}
 use Rattle.driver_replay.proofs.put_replayed.Goals as goal
 
 pub returns-in-Done : goal.returns-in-Done

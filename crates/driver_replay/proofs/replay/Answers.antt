@@ -3,7 +3,6 @@ use borrow.Author.Tests.{ne_eqb}
 use Rattle.bench_replay.specs.Replay.{replay_outcome}
 use Rattle.driver_replay.specs.Calls.{replay_call}
 use Rattle.driver_replay.proofs.Replays.{replay_passed}
-use borrow.Author.Rules.{rules}
 use Rattle.driver_replay.proofs.replay.Goals as goal
 
 pub returns-then-bad_variant : goal.returns-then-bad_variant

@@ -7,7 +7,6 @@ use Rattle.katan.specs.Checks.{variant_check, size_check}
 use Rattle.katan.proofs.Checked.{no_fault_found}
 use Rattle.driver_smudged.specs.Calls.{word_count, byte_count}
 use Rattle.driver_smudged.proofs.Joined.{three_left}
-use borrow.Author.Rules.{rules}
 use Rattle.driver_smudged.proofs.join.Goals as goal
 
 pub returns-then-bad_variant : goal.returns-then-bad_variant

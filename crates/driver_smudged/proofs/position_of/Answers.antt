@@ -1,6 +1,5 @@
 use native.Mathlib.Omega.{arith}
 use Rattle.driver_smudged.proofs.Positions.{both_late}
-use borrow.Author.Rules.{rules}
 use Rattle.driver_smudged.proofs.position_of.Goals as goal
 
 pub returns-then-position-gt-ROUND_COUNT : goal.returns-then-position-gt-ROUND_COUNT

@@ -10,7 +10,6 @@ use Rattle.katan.specs.Sizes.{key_bytes}
 use Rattle.katan.proofs.Copies.{it_fits}
 use Rattle.katan.proofs.Numbers.{length-bytes}
 use Rattle.katan_numbers.proofs.Written.{two_parts}
-use borrow.Author.Rules.{rules}
 use Rattle.driver_smudged.proofs.put_bytes.Goals as goal
 
 pub returns : goal.returns

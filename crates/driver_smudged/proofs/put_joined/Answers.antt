@@ -1,5 +1,4 @@
 use mathlib.Core.Path.{refl}
-use borrow.Author.Rules.{rules}
 use Rattle.driver_smudged.proofs.put_joined.Goals as goal
 
 pub returns-in-Joined : goal.returns-in-Joined

@@ -1,5 +1,3 @@
-use mathlib.Core.Path.{refl}
-use borrow.Author.Rules.{rules}
 use Rattle.driver_smudged.proofs.put_known.Goals as goal
 
 pub returns-in-Known : goal.returns-in-Known

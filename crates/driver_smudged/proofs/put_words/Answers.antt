@@ -1,5 +1,4 @@
 use Rattle.katan.proofs.Words.{two_words}
-use borrow.Author.Rules.{rules}
 use Rattle.driver_smudged.proofs.put_words.Goals as goal
 
 pub returns : goal.returns

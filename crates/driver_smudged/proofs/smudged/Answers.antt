@@ -1,4 +1,4 @@
-use mathlib.Core.Path.{◌≡◌, refl, sym, ap, ◌∙◌}
+use mathlib.Core.Path.{◌≡◌, sym, ap, ◌∙◌}
 use mathlib.Core.Bool.{true, false, not}
 use mathlib.Core.List.{[], ◌∷◌}
 use borrow.Author.Tests.{eq-eqb, ne_eqb}
@@ -9,7 +9,6 @@ use Rattle.katan.proofs.Lent.{same_answer}
 use Rattle.katan_sheet.specs.declared.KnownBits.{KnownBits}
 use Rattle.driver_smudged.specs.Calls.{known_words, word_count}
 use Rattle.driver_smudged.proofs.Positions.{same_run}
-use borrow.Author.Rules.{rules}
 use Rattle.driver_smudged.proofs.smudged.Goals as goal
 
 pub returns-then-bad_variant : goal.returns-then-bad_variant

@@ -4,7 +4,6 @@ use Rattle.katan.specs.Key.{key_number}
 use Rattle.katan_origin.specs.declared.ClockBits.{ClockBits}
 use Rattle.katan_origin.specs.declared.chains.Traced.{Traced}
 use Rattle.katan_origin.proofs.Places.{room_for_both}
-use borrow.Author.Rules.{rules}
 use Rattle.katan_origin.proofs.both_bits.Goals as goal
 
 pub overflow_add-result : goal.overflow_add-result

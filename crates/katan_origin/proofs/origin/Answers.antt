@@ -14,7 +14,6 @@ use Rattle.katan.proofs.Checked.{no_fault_found, fault_after}
 use Rattle.katan.proofs.KeyNumbers.{key_read}
 use Rattle.katan.proofs.Variants.{row_found, row_refused}
 use Rattle.katan_origin.specs.Origin.{last_clock, clock_check, origin_of, origin_checks, origin_answer}
-use borrow.Author.Rules.{rules}
 use Rattle.katan_origin.proofs.origin.Goals as goal
 
 -- each check, by what the code found

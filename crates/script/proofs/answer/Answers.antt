@@ -1,12 +1,12 @@
 use borrow.Author.Rules.{rules}
-use Prim.Native.Nat.{◌-◌, ◌^◌, ◌<◌}
+use Prim.Native.Nat.{◌^◌, ◌<◌}
 use mathlib.Core.Path.{◌≡◌}
 use mathlib.Core.Bool.{true}
 use borrow.Author.Tests.{not-true, not-false}
 use native.Mathlib.Omega.{arith}
 use lib.ListN.{length}
 use Rattle.script_answers.specs.Printed.{room}
-use Rattle.script.proofs.Turns.{Going, going_first, going_end, going_stop, going_on, step_within, step_space}
+use Rattle.script.proofs.Turns.{going_first, going_end, going_stop, going_on, step_within, step_space}
 use Rattle.script.proofs.answer.Goals as goal
 
 pub loop-used-init : goal.loop-used-init

@@ -1,4 +1,3 @@
-use borrow.Author.Rules.{rules}
 use mathlib.Core.Path.{sym, ap, ◌∙◌}
 use Rattle.script_answers.specs.Printed.{printed_as}
 use Rattle.script_interpreter.specs.declared.LineResult.{LineResult}

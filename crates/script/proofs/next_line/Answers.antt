@@ -1,4 +1,3 @@
-use borrow.Author.Rules.{rules}
 use mathlib.Core.Path.{sym, subst⁻¹}
 use lib.Seq.{length-take-le}
 use Rattle.script.specs.inner.Steps.{Steps}

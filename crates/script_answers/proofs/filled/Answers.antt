@@ -1,6 +1,4 @@
-use borrow.Author.Rules.{rules}
 use Rattle.script_form.specs.Form.{fill}
-use mathlib.Core.Path.{◌∙◌}
 use Rattle.script_answers.proofs.Lines.{as_printed}
 use Rattle.script_answers.proofs.filled.Goals as goal
 

@@ -1,4 +1,3 @@
-use borrow.Author.Rules.{rules}
 use Rattle.script_answers.specs.Printed.{opened_line}
 use Rattle.script_answers.proofs.Lines.{opened_fits}
 use Rattle.script_answers.proofs.opened_line.Goals as goal

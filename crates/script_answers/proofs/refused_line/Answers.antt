@@ -1,4 +1,3 @@
-use borrow.Author.Rules.{rules}
 use Rattle.script_answers.specs.Printed.{answer_line}
 use Rattle.script_answers.proofs.Lines.{refused_fits}
 use Rattle.script_answers.proofs.refused_line.Goals as goal

@@ -1,4 +1,3 @@
-use borrow.Author.Rules.{rules}
 use Rattle.script_answers.specs.Printed.{answer_line}
 use Rattle.script_answers.proofs.Lines.{done_fits, again_fits}
 use Rattle.script_answers.proofs.reply_line.Goals as goal

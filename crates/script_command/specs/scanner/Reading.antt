@@ -1,7 +1,7 @@
 -- The reading of a line, from left to right: its first bytes choose the form, and the rest is read by it. A reader need not believe this file: Reads in
 -- specs/Reads says what the answer to every line must be, and proofs/Exact proves it.
 -- Assumes nothing.
-use Rattle.std.specs.Prelude.{ℕ, ◌+◌, Bool, true, false, List, [], ◌∷◌, ltb, eqb, length, get_or}
+use Rattle.std.specs.Prelude.{ℕ, ◌+◌, List, ltb, eqb, length, get_or}
 use Rattle.katan.specs.Bit.{pick}
 use Rattle.katan.specs.Checks.{variant_check}
 use Rattle.script_form.specs.Form.{bytes, block_digits}

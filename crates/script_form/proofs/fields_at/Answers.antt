@@ -1,8 +1,7 @@
-use borrow.Author.Rules.{rules}
-use Prim.Native.Nat.{ℕ, ◌+◌, ◌-◌, ◌≤◌}
-use mathlib.Core.Path.{◌≡◌, ◌∙◌, sym, ap, subst⁻¹}
+use Prim.Native.Nat.{ℕ, ◌+◌, ◌≤◌}
+use mathlib.Core.Path.{◌∙◌, sym, ap, subst⁻¹}
 use native.Mathlib.Omega.{arith}
-use lib.ListN.{length, drop}
+use lib.ListN.{drop}
 use Rattle.script_form.proofs.Blocks.{digits_fit}
 use Rattle.script_form.specs.scanner.Scan.{begin, scan}
 use Rattle.script_form.specs.declared.Fields.{Fields}

@@ -1,12 +1,7 @@
-use borrow.Author.Rules.{rules}
-use Prim.Native.Nat.{ℕ, ◌+◌, ◌-◌, ◌≤◌}
-use mathlib.Core.Path.{◌≡◌, ◌∙◌, sym, ap, subst⁻¹}
-use native.Mathlib.Omega.{arith}
+use Prim.Native.Nat.{◌-◌, ◌≤◌}
+use mathlib.Core.Path.{◌≡◌}
 use lib.ListN.{length, drop}
-use Rattle.script_form.proofs.Blocks.{digits_fit}
 use Rattle.script_form.specs.scanner.Scan.{begin, scan}
-use Rattle.script_form.specs.declared.Fields.{Fields}
-use Rattle.script_form.proofs.Fronts.{scan_end, scan_next}
 use Rattle.script_form.proofs.fields_at.Given as goal
 
 abbrev pub invariant-loop-f : goal.invariant-loop-f

@@ -1,6 +1,5 @@
 use borrow.Author.Tests.{lt-ltb, le-ltb}
 use Rattle.script_form.specs.scanner.Scan.{push}
-use borrow.Author.Rules.{rules}
 use Rattle.script_form.proofs.pushed.Goals as goal
 
 pub returns-then-count-ge-WORDS : goal.returns-then-count-ge-WORDS

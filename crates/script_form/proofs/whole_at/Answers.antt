@@ -1,7 +1,6 @@
 use mathlib.Core.Bool.{true}
 use Rattle.script_form.specs.Form.{block_digits}
 use Rattle.script_form.proofs.Fronts.{whole_is, whole_not}
-use borrow.Author.Rules.{rules}
 use Rattle.script_form.proofs.whole_at.Goals as goal
 
 pub returns-then-found : goal.returns-then-found

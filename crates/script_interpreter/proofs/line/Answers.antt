@@ -1,4 +1,3 @@
-use borrow.Author.Rules.{rules}
 use mathlib.Core.Path.{◌∙◌}
 use Rattle.script_interpreter.specs.Interpreter.{takes_as}
 use Rattle.script_interpreter.proofs.Results.{line_result, broken_result}

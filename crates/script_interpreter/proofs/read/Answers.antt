@@ -1,4 +1,3 @@
-use borrow.Author.Rules.{rules}
 use Rattle.script_interpreter.proofs.Results.{read_result}
 use Rattle.script_interpreter.proofs.read.Goals as goal
 

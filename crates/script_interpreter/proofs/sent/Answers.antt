@@ -1,4 +1,3 @@
-use borrow.Author.Rules.{rules}
 use Rattle.script_interpreter.proofs.Results.{sent_result}
 use Rattle.script_interpreter.proofs.sent.Goals as goal
 

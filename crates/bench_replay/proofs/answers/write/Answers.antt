@@ -4,7 +4,6 @@ use native.Mathlib.Omega.{arith}
 use lib.ListN.{length, length-set}
 use Rattle.bench_replay.specs.Encoding.{answer_length}
 use Rattle.bench_replay.proofs.Writing.{length_over, fields_length, first_put, fields_put}
-use borrow.Author.Rules.{rules}
 use Rattle.bench_replay.proofs.answers.write.Goals as goal
 
 pub slice_bounds-put_number-end : goal.slice_bounds-put_number-end

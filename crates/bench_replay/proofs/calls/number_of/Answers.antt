@@ -1,7 +1,6 @@
 use mathlib.Core.Path.{refl, ◌∙◌}
 use native.Mathlib.Omega.{arith}
 use Rattle.bench_record.proofs.Parts.{part_of}
-use borrow.Author.Rules.{rules}
 use Rattle.bench_replay.proofs.calls.number_of.Goals as goal
 
 pub returns : goal.returns

@@ -4,7 +4,6 @@ use native.Mathlib.Omega.{arith}
 use lib.ListN.{length}
 use Rattle.bench_replay.specs.Encoding.{call_size}
 use Rattle.bench_replay.proofs.Parsing.{size_arrival, size_other, head_within, too_short, other_kind, whole_arrival, whole_read, no_size, its_size}
-use borrow.Author.Rules.{rules}
 use Rattle.bench_replay.proofs.calls.size_of.Goals as goal
 
 pub returns-then-len-lt-HEAD_LENGTH : goal.returns-then-len-lt-HEAD_LENGTH

@@ -1,14 +1,11 @@
 use mathlib.Core.Path.{◌≡◌, refl, sym, ap, ap₂, ◌∙◌}
-use mathlib.Core.Bool.{true}
-use mathlib.Core.List.{◌++◌}
 use Prim.Native.Nat.{◌+◌, ◌-◌, ◌≤◌}
 use native.Mathlib.Nat.{sub-zero}
 use native.Mathlib.Omega.{arith}
-use lib.ListN.{length, take, length-drop}
+use lib.ListN.{length, length-drop}
 use borrow.Author.Rules.{rules}
-use Rattle.bench.specs.Calls.{state_after, answers_to}
 use Rattle.bench.specs.Bench.{State, bench_transition}
-use Rattle.bench_replay.specs.Encoding.{call_size, is_call, calls_in, answer_length, answers_bytes, fits}
+use Rattle.bench_replay.specs.Encoding.{call_size, answer_length, fits}
 use Rattle.bench_replay.specs.inner.Steps.{state_of}
 use Rattle.bench_replay.proofs.Parsing.{head_within, call_within, size_is, after_first, fits_whole, fits_room, fits_on, end_room}
 use Rattle.bench_replay.proofs.Running.{state_end, state_turn, output_turn, output_last}

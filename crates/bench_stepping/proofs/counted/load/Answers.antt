@@ -4,7 +4,6 @@ use Rattle.bench.specs.declared.Loaded.{Loaded}
 use Rattle.bench.specs.declared.Lane.TheVariants.{Held}
 use Rattle.bench_moves.specs.Moves.{with_slots}
 use Rattle.bench.specs.Steps.{slots_as}
-use borrow.Author.Rules.{rules}
 use Rattle.bench_stepping.proofs.counted.load.Goals as goal
 
 pub returns : goal.returns

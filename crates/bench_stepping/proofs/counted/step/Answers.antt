@@ -3,7 +3,6 @@ use Rattle.bench_record.proofs.ByKind.{is_load, is_forward, is_back, is_clear, i
 use Rattle.bench.specs.Steps.{slots_as, total_as}
 use Rattle.bench_moves.specs.declared.Motion.TheVariants.{Forward, Back, Clear}
 use Rattle.bench_moves.proofs.Sound.{all_step, none_moved}
-use borrow.Author.Rules.{rules}
 use Rattle.bench_stepping.proofs.counted.step.Goals as goal
 
 pub returns-in-1 : goal.returns-in-1

@@ -1,6 +1,5 @@
 use mathlib.Core.Path.{refl}
 use Rattle.katan_origin.proofs.Formulas.{same_traced}
-use borrow.Author.Rules.{rules}
 use Rattle.katan_origin.proofs.chains.block_bit.Goals as goal
 
 pub returns : goal.returns

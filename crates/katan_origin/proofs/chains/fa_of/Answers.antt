@@ -1,5 +1,4 @@
 use Rattle.katan_origin.proofs.Formulas.{fa_made}
-use borrow.Author.Rules.{rules}
 use Rattle.katan_origin.proofs.chains.fa_of.Goals as goal
 
 pub returns : goal.returns

@@ -1,5 +1,4 @@
 use Rattle.katan_origin.proofs.Formulas.{fb_made}
-use borrow.Author.Rules.{rules}
 use Rattle.katan_origin.proofs.chains.fb_of.Goals as goal
 
 pub returns : goal.returns

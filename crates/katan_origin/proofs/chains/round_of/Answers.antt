@@ -1,6 +1,5 @@
 use native.Mathlib.Omega.{arith}
 use native.Mathlib.Nat.{div-le_self}
-use borrow.Author.Rules.{rules}
 use Rattle.katan_origin.proofs.chains.round_of.Goals as goal
 
 pub overflow_cast-result : goal.overflow_cast-result

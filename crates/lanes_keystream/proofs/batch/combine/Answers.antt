@@ -1,9 +1,6 @@
 use mathlib.Core.Path.{◌≡◌, refl, sym, ◌∙◌}
-use Prim.Native.Nat.{◌-◌, ◌≤◌}
 use native.Mathlib.Omega.{arith}
-use lib.ListN.{length, length-set, get_or}
-use Rattle.katan.specs.Bit.{xor}
-use Rattle.lanes_keystream.specs.inner.Batch.{Written}
+use lib.ListN.{length-set}
 use Rattle.lanes_keystream.proofs.Parts.{written_more}
 use Rattle.lanes_keystream.proofs.batch.combine.Goals as goal
 

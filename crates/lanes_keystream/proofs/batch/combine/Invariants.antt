@@ -1,10 +1,8 @@
-use mathlib.Core.Path.{◌≡◌, refl, sym, ◌∙◌}
+use mathlib.Core.Path.{◌≡◌}
 use Prim.Native.Nat.{◌-◌, ◌≤◌}
-use native.Mathlib.Omega.{arith}
-use lib.ListN.{length, length-set, get_or}
+use lib.ListN.{length, get_or}
 use Rattle.katan.specs.Bit.{xor}
 use Rattle.lanes_keystream.specs.inner.Batch.{Written}
-use Rattle.lanes_keystream.proofs.Parts.{written_more}
 use Rattle.lanes_keystream.proofs.batch.combine.Given as goal
 
 abbrev pub invariant-loop-j : goal.invariant-loop-j

@@ -1,5 +1,5 @@
 use mathlib.Core.Path.{◌≡◌, refl, sym, ap, subst, ◌∙◌}
-use Prim.Native.Nat.{ℕ, ◌+◌, ◌-◌, ◌*◌, ◌≤◌}
+use Prim.Native.Nat.{ℕ, ◌+◌, ◌*◌, ◌≤◌}
 use native.Mathlib.Nat.{le_of_lt}
 use native.Mathlib.Omega.{arith}
 use borrow.Author.Rules.{rules}
@@ -8,10 +8,9 @@ use Rattle.katan.specs.Bit.{number_in}
 use Rattle.katan.specs.Machine.{encryption}
 use Rattle.lanes.specs.Many.{block_key}
 use Rattle.lanes_keystream.specs.Stream.{block_count}
-use Rattle.lanes_keystream.specs.inner.Batch.{batch_length}
 use Rattle.lanes_keystream.proofs.Batches.{bytes_known}
 use Rattle.lanes_keystream.proofs.Counter.{some_bytes}
-use Rattle.lanes_keystream.proofs.Message.{repeated_key, turn, Combined, combined_more, all_combined}
+use Rattle.lanes_keystream.proofs.Message.{repeated_key, turn, combined_more, all_combined}
 use Rattle.lanes_keystream.proofs.batch.combine_all.Goals as goal
 
 pub repeated-keys-requires : goal.repeated-keys-requires

@@ -5,9 +5,8 @@ use native.Mathlib.Omega.{arith}
 use borrow.Author.Rules.{rules}
 use lib.ListN.{length, get_or}
 use Rattle.katan.specs.Sizes.{lane_count}
-use Rattle.katan.specs.inner.Within.{Entries}
 use Rattle.katan_numbers.proofs.Written.{in_bytes}
-use Rattle.lanes_keystream.specs.inner.Batch.{batch_length, byte_of}
+use Rattle.lanes_keystream.specs.inner.Batch.{batch_length}
 use Rattle.lanes_keystream.proofs.Places.{word_on}
 use Rattle.lanes_keystream.proofs.batch.put_bytes.Goals as goal
 

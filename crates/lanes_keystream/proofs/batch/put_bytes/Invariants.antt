@@ -1,14 +1,9 @@
-use mathlib.Core.Path.{◌≡◌, sym, ◌∙◌}
-use Prim.Native.Nat.{ℕ, ◌+◌, ◌-◌, ◌*◌, ◌<◌, ◌≤◌}
-use native.Mathlib.Nat.{mul-le-mul}
-use native.Mathlib.Omega.{arith}
-use borrow.Author.Rules.{rules}
+use mathlib.Core.Path.{◌≡◌}
+use Prim.Native.Nat.{◌-◌, ◌*◌, ◌≤◌}
 use lib.ListN.{length, get_or}
 use Rattle.katan.specs.Sizes.{lane_count}
 use Rattle.katan.specs.inner.Within.{Entries}
-use Rattle.katan_numbers.proofs.Written.{in_bytes}
 use Rattle.lanes_keystream.specs.inner.Batch.{batch_length, byte_of}
-use Rattle.lanes_keystream.proofs.Places.{word_on}
 use Rattle.lanes_keystream.proofs.batch.put_bytes.Given as goal
 
 abbrev pub invariant-loop-i : goal.invariant-loop-i

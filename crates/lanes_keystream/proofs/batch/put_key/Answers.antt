@@ -1,10 +1,7 @@
-use mathlib.Core.Path.{◌≡◌, refl, sym, ◌∙◌}
-use Prim.Native.Nat.{◌-◌, ◌≤◌}
+use mathlib.Core.Path.{refl, sym, ◌∙◌}
 use native.Mathlib.Omega.{arith}
-use lib.ListN.{length, length-set, get_or}
+use lib.ListN.{length-set, get_or}
 use lib.Seq.{ext_get_or}
-use Rattle.katan.specs.Sizes.{key_bytes}
-use Rattle.katan.specs.inner.Within.{Entries}
 use Rattle.katan.proofs.Fill.{filled}
 use Rattle.lanes_keystream.proofs.batch.put_key.Goals as goal
 

@@ -1,11 +1,8 @@
-use mathlib.Core.Path.{◌≡◌, refl, sym, ◌∙◌}
+use mathlib.Core.Path.{◌≡◌}
 use Prim.Native.Nat.{◌-◌, ◌≤◌}
-use native.Mathlib.Omega.{arith}
-use lib.ListN.{length, length-set, get_or}
-use lib.Seq.{ext_get_or}
+use lib.ListN.{length, get_or}
 use Rattle.katan.specs.Sizes.{key_bytes}
 use Rattle.katan.specs.inner.Within.{Entries}
-use Rattle.katan.proofs.Fill.{filled}
 use Rattle.lanes_keystream.proofs.batch.put_key.Given as goal
 
 abbrev pub invariant-loop-i : goal.invariant-loop-i

@@ -1,9 +1,8 @@
-use mathlib.Core.Path.{◌≡◌, refl, ◌∙◌}
-use Prim.Native.Nat.{ℕ, ◌+◌, ◌-◌, ◌≤◌}
+use mathlib.Core.Path.{refl, ◌∙◌}
+use Prim.Native.Nat.{◌+◌}
 use native.Mathlib.Omega.{arith}
-use lib.ListN.{length, length-set, get_or}
+use lib.ListN.{length-set}
 use lib.Seq.{get_or-set_other}
-use Rattle.katan.specs.inner.Within.{Entries}
 use Rattle.katan.proofs.Fill.{filled}
 use Rattle.lanes_keystream.proofs.batch.put_numbers.Goals as goal
 

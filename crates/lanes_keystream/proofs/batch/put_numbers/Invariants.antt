@@ -1,10 +1,7 @@
-use mathlib.Core.Path.{◌≡◌, refl, ◌∙◌}
+use mathlib.Core.Path.{◌≡◌}
 use Prim.Native.Nat.{ℕ, ◌+◌, ◌-◌, ◌≤◌}
-use native.Mathlib.Omega.{arith}
-use lib.ListN.{length, length-set, get_or}
-use lib.Seq.{get_or-set_other}
+use lib.ListN.{length, get_or}
 use Rattle.katan.specs.inner.Within.{Entries}
-use Rattle.katan.proofs.Fill.{filled}
 use Rattle.lanes_keystream.proofs.batch.put_numbers.Given as goal
 
 abbrev pub invariant-loop-i : goal.invariant-loop-i

@@ -1,11 +1,10 @@
 use mathlib.Core.Path.{◌≡◌, ◌∙◌}
-use Prim.Native.Nat.{◌+◌, ◌-◌, ◌*◌, ◌%◌, ◌≤◌}
+use Prim.Native.Nat.{◌+◌, ◌-◌, ◌*◌}
 use native.Mathlib.Omega.{arith}
 use borrow.Author.Rules.{rules}
 use borrow.Rule.Slice.PartMut.{same_len_mid}
-use lib.ListN.{length, get_or}
-use Rattle.katan.specs.Sizes.{lane_count, key_bytes}
-use Rattle.katan.specs.inner.Within.{Entries}
+use lib.ListN.{length}
+use Rattle.katan.specs.Sizes.{key_bytes}
 use Rattle.lanes_keystream.proofs.Places.{key_on}
 use Rattle.lanes_keystream.proofs.batch.repeated.Goals as goal
 

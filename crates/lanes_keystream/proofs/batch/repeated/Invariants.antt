@@ -1,12 +1,8 @@
-use mathlib.Core.Path.{◌≡◌, ◌∙◌}
-use Prim.Native.Nat.{◌+◌, ◌-◌, ◌*◌, ◌%◌, ◌≤◌}
-use native.Mathlib.Omega.{arith}
-use borrow.Author.Rules.{rules}
-use borrow.Rule.Slice.PartMut.{same_len_mid}
+use mathlib.Core.Path.{◌≡◌}
+use Prim.Native.Nat.{◌-◌, ◌*◌, ◌%◌, ◌≤◌}
 use lib.ListN.{length, get_or}
 use Rattle.katan.specs.Sizes.{lane_count, key_bytes}
 use Rattle.katan.specs.inner.Within.{Entries}
-use Rattle.lanes_keystream.proofs.Places.{key_on}
 use Rattle.lanes_keystream.proofs.batch.repeated.Given as goal
 
 abbrev pub invariant-loop-i : goal.invariant-loop-i

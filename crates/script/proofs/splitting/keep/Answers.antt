@@ -1,9 +1,6 @@
-use borrow.Author.Rules.{rules}
-use Prim.Native.Nat.{◌-◌, ◌≤◌}
-use mathlib.Core.Path.{◌≡◌, refl, sym, ◌∙◌}
+use mathlib.Core.Path.{refl, sym, ◌∙◌}
 use native.Mathlib.Omega.{arith}
-use lib.ListN.{length, drop, length-set}
-use Rattle.script.specs.inner.Kept.{kept_all}
+use lib.ListN.{length-set}
 use Rattle.script.proofs.Begun.{pending, all_full, kept_next, kept_end}
 use Rattle.script.proofs.splitting.keep.Goals as goal
 

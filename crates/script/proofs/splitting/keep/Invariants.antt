@@ -1,10 +1,8 @@
-use borrow.Author.Rules.{rules}
 use Prim.Native.Nat.{◌-◌, ◌≤◌}
-use mathlib.Core.Path.{◌≡◌, refl, sym, ◌∙◌}
-use native.Mathlib.Omega.{arith}
-use lib.ListN.{length, drop, length-set}
+use mathlib.Core.Path.{◌≡◌}
+use lib.ListN.{length, drop}
 use Rattle.script.specs.inner.Kept.{kept_all}
-use Rattle.script.proofs.Begun.{pending, all_full, kept_next, kept_end}
+use Rattle.script.proofs.Begun.{pending}
 use Rattle.script.proofs.splitting.keep.Given as goal
 
 abbrev pub invariant-loop-i : goal.invariant-loop-i

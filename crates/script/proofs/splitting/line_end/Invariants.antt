@@ -1,11 +1,7 @@
-use borrow.Author.Rules.{rules}
 use Prim.Native.Nat.{◌+◌, ◌-◌, ◌≤◌}
 use mathlib.Core.Path.{◌≡◌}
-use native.Mathlib.Nat.{zero-add}
-use native.Mathlib.Omega.{arith}
 use lib.ListN.{length, drop}
 use Rattle.script.specs.inner.Kept.{line_end}
-use Rattle.script.proofs.Begun.{end_here, end_later, end_none}
 use Rattle.script.proofs.splitting.line_end.Given as goal
 
 abbrev pub invariant-loop-i : goal.invariant-loop-i

@@ -1,5 +1,4 @@
 use mathlib.Core.Path.{refl}
-use borrow.Author.Rules.{rules}
 use borrow.Author.Tests.{lt-ltb, le-ltb}
 use Rattle.script_form.specs.Digits.{digit}
 use Rattle.script_answers.proofs.form.digit_of.Goals as goal

@@ -1,8 +1,5 @@
-use borrow.Author.Rules.{rules}
-use Prim.Native.Nat.{◌+◌, ◌/◌, ◌^◌, ◌≤◌, ◌<◌}
-use mathlib.Core.Path.{◌≡◌, sym}
-use native.Mathlib.Omega.{arith}
-use Rattle.script_form.proofs.Lengths.{div_none, place_up, place_few, place_next, place_end}
+use Prim.Native.Nat.{◌/◌, ◌^◌, ◌≤◌, ◌<◌}
+use mathlib.Core.Path.{◌≡◌}
 use Rattle.script_answers.proofs.form.places.Given as goal
 
 abbrev pub invariant-loop-v : goal.invariant-loop-v

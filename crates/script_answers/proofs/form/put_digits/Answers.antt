@@ -1,11 +1,7 @@
-use borrow.Author.Rules.{rules}
-use Prim.Native.Nat.{◌+◌, ◌-◌, ◌/◌, ◌^◌, ◌≤◌}
-use mathlib.Core.Path.{◌≡◌, refl, sym}
-use mathlib.Core.List.{◌++◌}
+use mathlib.Core.Path.{refl, sym}
 use native.Mathlib.Nat.{lt_of_lt_of_le, mod-lt}
 use native.Mathlib.Omega.{arith}
-use lib.ListN.{length, take, drop, length-set}
-use Rattle.script_form.specs.Digits.{fixed}
+use lib.ListN.{length-set}
 use Rattle.script_form.proofs.Lengths.{div_none}
 use Rattle.script_answers.proofs.Writing.{none_written, taken_more, written_more, all_written}
 use Rattle.script_answers.proofs.form.put_digits.Goals as goal

@@ -1,9 +1,7 @@
-use borrow.Author.Rules.{rules}
 use Prim.Native.Nat.{◌+◌}
-use mathlib.Core.Path.{◌≡◌, refl, sym, ap, ◌∙◌}
-use mathlib.Core.List.{◌++◌}
+use mathlib.Core.Path.{sym, ap, ◌∙◌}
 use native.Mathlib.Omega.{arith}
-use lib.ListN.{length, take, drop}
+use lib.ListN.{length}
 use Rattle.script_answers.specs.inner.Pieces.{put_at}
 use Rattle.script_answers.proofs.Writing.{as_letter, as_digits, letter_written, digits_put}
 use Rattle.script_answers.proofs.form.put_piece.Goals as goal

@@ -1,4 +1,3 @@
-use borrow.Author.Rules.{rules}
 use mathlib.Core.Path.{ap}
 use Rattle.script_form.specs.Form.{piece_of}
 use Rattle.script_answers.proofs.Writing.{number_shape, digits_shape, letter_shape}

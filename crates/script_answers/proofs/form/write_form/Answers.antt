@@ -1,11 +1,9 @@
-use borrow.Author.Rules.{rules}
-use Prim.Native.Nat.{◌+◌, ◌-◌, ◌≤◌}
+use Prim.Native.Nat.{◌+◌}
 use mathlib.Core.Path.{◌≡◌, refl, ◌∙◌}
-use mathlib.Core.List.{◌++◌}
 use native.Mathlib.Omega.{arith}
-use lib.ListN.{length, take, drop, get_or}
+use lib.ListN.{length, get_or}
 use Rattle.script_form.specs.Form.{piece_of, fill}
-use Rattle.script_answers.specs.inner.Pieces.{values_taken, put_at}
+use Rattle.script_answers.specs.inner.Pieces.{put_at}
 use Rattle.script_answers.proofs.Writing.{text, taken_few, piece_fits, turn, form_end}
 use Rattle.script_answers.proofs.form.write_form.Goals as goal
 

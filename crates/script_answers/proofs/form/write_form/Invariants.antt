@@ -1,12 +1,8 @@
-use borrow.Author.Rules.{rules}
-use Prim.Native.Nat.{◌+◌, ◌-◌, ◌≤◌}
-use mathlib.Core.Path.{◌≡◌, refl, ◌∙◌}
+use Prim.Native.Nat.{◌-◌, ◌≤◌}
+use mathlib.Core.Path.{◌≡◌}
 use mathlib.Core.List.{◌++◌}
-use native.Mathlib.Omega.{arith}
-use lib.ListN.{length, take, drop, get_or}
-use Rattle.script_form.specs.Form.{piece_of, fill}
-use Rattle.script_answers.specs.inner.Pieces.{values_taken, put_at}
-use Rattle.script_answers.proofs.Writing.{text, taken_few, piece_fits, turn, form_end}
+use lib.ListN.{length, take, drop}
+use Rattle.script_form.specs.Form.{fill}
 use Rattle.script_answers.proofs.form.write_form.Given as goal
 
 abbrev pub invariant-loop-f : goal.invariant-loop-f

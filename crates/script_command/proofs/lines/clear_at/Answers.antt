@@ -4,7 +4,6 @@ use Rattle.script_form.specs.declared.Values.{Values}
 use Rattle.script_command.specs.scanner.Reading.{clear_in, clear_form}
 use Rattle.script_command.specs.declared.Command.TheVariants.{Clear}
 use Rattle.script_command.proofs.Openings.{made_is, made_not}
-use borrow.Author.Rules.{rules}
 use Rattle.script_command.proofs.lines.clear_at.Goals as goal
 
 -- LOST slice-aggregate-whole-at : tie.Need-slice-aggregate-whole-at

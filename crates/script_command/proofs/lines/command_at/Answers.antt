@@ -1,6 +1,5 @@
 use mathlib.Core.Path.{◌∙◌, sym, ap}
 use Rattle.script_command.specs.scanner.Reading.{command_as, command_of}
-use borrow.Author.Rules.{rules}
 use Rattle.script_command.proofs.lines.command_at.Goals as goal
 
 -- src/lines.rt:201:1

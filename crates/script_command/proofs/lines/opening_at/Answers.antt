@@ -1,7 +1,6 @@
 use mathlib.Core.Path.{◌∙◌, sym}
 use Rattle.katan.proofs.Variants.{row_found, row_refused}
 use Rattle.script_command.proofs.Openings.{opening_out, opening_long, opening_bench, opening_closed, opening_read, opening_number}
-use borrow.Author.Rules.{rules}
 use Rattle.script_command.proofs.lines.opening_at.Goals as goal
 
 -- src/lines.rt:85:9

@@ -1,10 +1,8 @@
 use borrow.Author.Rules.{rules}
-use Prim.Native.Nat.{◌+◌, ◌-◌, ◌≤◌, ◌<◌, ◌^◌}
-use mathlib.Core.Path.{◌≡◌, sym, ◌∙◌}
+use Prim.Native.Nat.{◌+◌}
+use mathlib.Core.Path.{sym, ◌∙◌}
 use native.Mathlib.Nat.{sub-zero}
 use native.Mathlib.Omega.{arith}
-use lib.ListN.{drop}
-use Rattle.script_form.specs.scanner.Scan.{run_in}
 use Rattle.script_form.proofs.Runs.{loop_out, loop_full, loop_stop, loop_go, value_below, value_fits}
 use Rattle.script_form.proofs.digits.run_at.Goals as goal
 

@@ -1,11 +1,7 @@
-use borrow.Author.Rules.{rules}
-use Prim.Native.Nat.{◌+◌, ◌-◌, ◌≤◌, ◌<◌, ◌^◌}
-use mathlib.Core.Path.{◌≡◌, sym, ◌∙◌}
-use native.Mathlib.Nat.{sub-zero}
-use native.Mathlib.Omega.{arith}
+use Prim.Native.Nat.{◌-◌, ◌≤◌, ◌<◌, ◌^◌}
+use mathlib.Core.Path.{◌≡◌}
 use lib.ListN.{drop}
 use Rattle.script_form.specs.scanner.Scan.{run_in}
-use Rattle.script_form.proofs.Runs.{loop_out, loop_full, loop_stop, loop_go, value_below, value_fits}
 use Rattle.script_form.proofs.digits.run_at.Given as goal
 
 abbrev pub invariant-loop-count : goal.invariant-loop-count

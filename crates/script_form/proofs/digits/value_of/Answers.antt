@@ -1,5 +1,4 @@
 use mathlib.Core.Path.{refl}
-use borrow.Author.Rules.{rules}
 use borrow.Author.Tests.{lt-ltb, le-ltb, le-leb, lt-leb}
 use Rattle.script_form.specs.scanner.Scan.{value_of}
 use Rattle.script_form.proofs.digits.value_of.Goals as goal

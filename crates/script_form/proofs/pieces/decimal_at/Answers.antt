@@ -1,4 +1,3 @@
-use borrow.Author.Rules.{rules}
 use borrow.Author.Tests.{eq-eqb, ne_eqb, lt-ltb, le-ltb}
 use Rattle.script_form.proofs.Fronts.{decimal_out, decimal_front}
 use Rattle.script_form.proofs.pieces.decimal_at.Goals as goal

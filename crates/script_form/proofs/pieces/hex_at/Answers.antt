@@ -1,6 +1,5 @@
 use borrow.Author.Tests.{eq-eqb, ne_eqb, le-leb}
 use Rattle.script_form.specs.scanner.Scan.{digits_in}
-use borrow.Author.Rules.{rules}
 use Rattle.script_form.proofs.pieces.hex_at.Goals as goal
 
 pub returns-then-run-count : goal.returns-then-run-count

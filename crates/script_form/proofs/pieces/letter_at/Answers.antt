@@ -1,4 +1,3 @@
-use borrow.Author.Rules.{rules}
 use Rattle.script_form.proofs.Fronts.{letter_out, letter_yes, letter_not}
 use Rattle.script_form.proofs.pieces.letter_at.Goals as goal
 

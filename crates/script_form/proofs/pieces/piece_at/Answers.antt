@@ -1,5 +1,4 @@
 use borrow.Author.Tests.{ne_eqb}
-use borrow.Author.Rules.{rules}
 use Rattle.script_form.proofs.pieces.piece_at.Goals as goal
 
 pub returns-in-35 : goal.returns-in-35
