@@ -1,13 +1,16 @@
 use native.Mathlib.Omega.{arith}
 use mathlib.Core.Path.{ap, ◌∙◌}
+use Prim.Native.Nat.{ℕ, ◌^◌, ◌<◌}
 use Rattle.katan.specs.Key.{key_of}
-use Rattle.bench_record.proofs.Parts.{number_below, part_of}
+use Rattle.bench_record.specs.Fields.{part}
+use Rattle.bench_record.proofs.Parts.{part_lt, part_of}
 use Rattle.bench_record.proofs.decoded.Goals as goal
 
 pub overflow_cast-number : goal.overflow_cast-number
 overflow_cast-number c =
     let known = c.type_inv.sent in
-    record { fits = rw c.word_in-number.ensures (number_below c.args.sent.now (λ j. (known j).fits)) }
+    let small : (a : ℕ) → part c.args.sent.now a 4 < 2 ^ 32 = λ a. part_lt c.args.sent.now (λ j. (known j).fits) a 4 in
+    record { fits = rw c.word_in-number.ensures (search small) }
 
 pub returns : goal.returns
 returns c =

@@ -11,10 +11,14 @@ use Rattle.bench_record.proofs.Same.{other_length, same_from}
 use Rattle.bench_record.proofs.same_bytes.Goals as goal
 
 pub returns-then-a-b : goal.returns-then-a-b
-returns-then-a-b c = sym (other_length _ _ c.if-a-b.true)
+returns-then-a-b c =
+    let differ = c.if-a-b.true in
+    sym (other_length _ _ (λ e. omega arith))
 
 pub loop-i-init : goal.loop-i-init
-loop-i-init c = (omega arith, c.if-a-b.false, refl)
+loop-i-init c =
+    let same = c.if-a-b.false in
+    (omega arith, omega arith, refl)
 
 -- all the bytes are the same: byte i is, and those after it are
 split : (a b : List ℕ) (i : ℕ) → i < length a → i < length b → same_bytes (drop i a) (drop i b) ≡ same_bytes a b → same_bytes a b ≡ eqb (get_or a i 0) (get_or b i 0) && same_bytes (drop (i + 1) a) (drop (i + 1) b)
