@@ -1,6 +1,6 @@
 -- A lane follows a machine, slots follow machines one by one, and a counted record keeps it so.
 -- Assumes nothing.
-use mathlib.Core.Path.{◌≡◌, refl, sym, ap, ap₂, ◌∙◌}
+use mathlib.Core.Path.{◌≡◌, refl, sym, ap, ap₂, subst, ◌∙◌}
 use mathlib.Core.Bool.{Bool, true, false}
 use mathlib.Core.List.{List, [], ◌∷◌, map}
 use Prim.Native.Nat.{ℕ, zero, suc, ◌+◌, ◌/◌, ◌^◌, ◌<◌, ◌≤◌}
@@ -177,7 +177,10 @@ module _ (v : ℕ) where
       mask_steps [] (m ∷ ms) i h = absurd h
       mask_steps (x ∷ ss) [] i h = absurd h
       mask_steps (x ∷ ss) (m ∷ ms) i h =
-          (rw (named i) (one_step (eqb (bit r.mask i) 1) x m h.0), rw half (mask_steps ss ms (suc i) h.1))
+          let is_named : Bool = eqb (bit r.mask i) 1 in (
+            subst (λ (b : Bool). Follows (pick is_named (record { lane = f x.lane }) x).lane (pick b (step_as (kind r) r m) m)) (sym (named i)) (one_step is_named x m h.0),
+            rw half (mask_steps ss ms (suc i) h.1),
+          )
 
     module _ (g : Lane → ℕ) (goes : (l : Lane) (m : Machine) → Follows l m → g l ≡ moved_as (kind r) r m) where
       mask_total : (ss : List Slot) (ms : List Machine) (i : ℕ) → AllFollow ss ms → moved_slots g (r.mask / 2 ^ i) ss ≡ total_of r i ms

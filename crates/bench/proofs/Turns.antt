@@ -17,7 +17,7 @@ use Rattle.bench_record.specs.Fields.{same_bytes, record_length, decode, kind}
 use Rattle.bench_record.specs.Checks.{nonzero, wrong_count, field_checks}
 use Rattle.bench_record.proofs.Same.{same_equal, same_self}
 use Rattle.bench_record.proofs.Parts.{number_below}
-use Rattle.bench.specs.Checks.{LaneView, View, bench_check, turn_checks, arrival_checks, Turn, counts, repeats, turn_of, decision}
+use Rattle.bench.specs.Checks.{LaneView, View, bench_check, turn_check, repeat_check, turn_checks, arrival_checks, Turn, counts, repeats, turn_of, decision}
 use Rattle.bench.specs.Claim.{OnlyRepeats}
 use Rattle.bench.specs.TurnFirst.{OutOfTurn, OtherBytes, InTurn}
 use Rattle.katan.proofs.Checked.{NoFault, no_fault_found, all_passed, checked_append}
@@ -34,7 +34,10 @@ not_latest latest s differs = go (same_bytes latest s) refl
 
 module _ (last : ℕ) (latest s : List ℕ) where
   pub next_passes : (decode s).number ≡ last + 1 → NoFault (turn_checks last latest s)
-  next_passes e = (rw (eq-eqb (decode s).number (last + 1) e), (rw (ne_eqb (decode s).number last (λ f. omega arith)), tt))
+  next_passes e =
+      let turn : (turn_check last s).fault ≡ false = rw (eq-eqb (decode s).number (last + 1) e) in
+      let repeat : (repeat_check last latest s).fault ≡ false = rw (ne_eqb (decode s).number last (λ f. omega arith)) in
+      search
 
   pub turn_of_next : (decode s).number ≡ last + 1 → turn_of last s ≡ counts
   turn_of_next e = rw (eq-eqb (decode s).number (last + 1) e)
@@ -43,7 +46,9 @@ module _ (last : ℕ) (latest s : List ℕ) where
     pub repeat_passes : (last ≡ 0 → ⊥) → (decode s).number ≡ last → same_bytes latest s ≡ true → NoFault (turn_checks last latest s)
     repeat_passes some e f =
         let is_last = eq-eqb (decode s).number last e in
-        (rw (ne_eqb (decode s).number (last + 1) later, ne_eqb last 0 some, is_last), (rw (is_last, f), tt))
+        let turn : (turn_check last s).fault ≡ false = rw (ne_eqb (decode s).number (last + 1) later, ne_eqb last 0 some, is_last) in
+        let repeat : (repeat_check last latest s).fault ≡ false = rw (is_last, f) in
+        search
 
     pub turn_of_other : turn_of last s ≡ repeats
     turn_of_other = rw (ne_eqb (decode s).number (last + 1) later)
