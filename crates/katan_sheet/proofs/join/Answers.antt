@@ -30,16 +30,6 @@ returns-then-too_wide c =
     let ten' = sym c.bad_length-in-Found.ensures ∙ c.if-bad_length-2.false in
     first_wide v a.block a.key_ones.now a.key_zeros.now a.other a.other_key_ones.now a.other_key_zeros.now is.no_fault ten ten' (width_is v _ is.is_row a.block _ c.too_wide.ensures ∙ c.if-too_wide.true)
 
-pub returns-then-too_wide-2 : goal.returns-then-too_wide-2
-returns-then-too_wide-2 c =
-    let a = c.args in
-    let v = a.variant in
-    let is = row_found v c.row_of.result _ c.row_of.ensures c.in-Found.is in
-    let ten = sym c.bad_length.ensures ∙ c.if-bad_length.false in
-    let ten' = sym c.bad_length-in-Found.ensures ∙ c.if-bad_length-2.false in
-    let fits = width_is v _ is.is_row a.block _ c.too_wide.ensures ∙ c.if-too_wide.false in
-    second_wide v a.block a.key_ones.now a.key_zeros.now a.other a.other_key_ones.now a.other_key_zeros.now is.no_fault ten ten' fits (width_is v _ is.is_row a.other _ c.too_wide-in-Found.ensures ∙ c.if-too_wide-2.true)
-
 pub returns-then-contradictory : goal.returns-then-contradictory
 returns-then-contradictory c =
     let a = c.args in
@@ -67,6 +57,16 @@ returns-else-contradictory c =
     let key = c.join_key-key.ensures ∙ ap₂ joined (key-given a.key_ones.now a.key_zeros.now _ c.key_of.ensures ten) (key-given a.other_key_ones.now a.other_key_zeros.now _ c.key_of-in-Found.ensures ten') in
     let sixteen = ap₂ (λ (k b : KnownBits). (contradiction_check k b).fault) (sym key) (sym known) ∙ sym c.contradictory.ensures in
     ap value (ap₂ (λ (b k : KnownBits). (b, k)) known key) ∙ both_joined v a.block a.key_ones.now a.key_zeros.now a.other a.other_key_ones.now a.other_key_zeros.now is.no_fault ten ten' fits fits' (sixteen ∙ c.if-contradictory.false)
+
+pub returns-then-too_wide-2 : goal.returns-then-too_wide-2
+returns-then-too_wide-2 c =
+    let a = c.args in
+    let v = a.variant in
+    let is = row_found v c.row_of.result _ c.row_of.ensures c.in-Found.is in
+    let ten = sym c.bad_length.ensures ∙ c.if-bad_length.false in
+    let ten' = sym c.bad_length-in-Found.ensures ∙ c.if-bad_length-2.false in
+    let fits = width_is v _ is.is_row a.block _ c.too_wide.ensures ∙ c.if-too_wide.false in
+    second_wide v a.block a.key_ones.now a.key_zeros.now a.other a.other_key_ones.now a.other_key_zeros.now is.no_fault ten ten' fits (width_is v _ is.is_row a.other _ c.too_wide-in-Found.ensures ∙ c.if-too_wide-2.true)
 
 pub returns-in-Refused : goal.returns-in-Refused
 returns-in-Refused c =
