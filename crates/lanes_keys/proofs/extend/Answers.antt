@@ -16,7 +16,7 @@ loop-i-preserved c =
     let a = c.args in
     let s = a.s in
     let x = xor (xor (xor (get_or l.words (l.i - key_length * s) 0) (get_or l.words (l.i - 61 * s) 0)) (get_or l.words (l.i - 50 * s) 0)) (get_or l.words (l.i - 13 * s) 0) in (
-      length-set l.words l.i x ∙ l.invariant.0,
+      length-set l.words l.i _ ∙ l.invariant.0,
       omega arith,
       omega arith,
       λ f h k.

@@ -21,10 +21,10 @@ picked_below : (i n : ℕ) (numbers : List ℕ) → numbers ≡ tabulate key_bit
 picked_below i n numbers e is q = rw (is ∙ number_at numbers e i q) (number_below i q)
 
 pub offset_bounds-key-index_of : goal.offset_bounds-key-index_of
-offset_bounds-key-index_of c = omega (arith, picked_below c.loop-i.i _ _ c.key_bit_numbers-numbers.ensures c.index_of.ensures (omega arith))
+offset_bounds-key-index_of c = omega (arith, picked_below _ _ _ c.key_bit_numbers-numbers.ensures c.index_of.ensures (omega arith))
 
 pub bounds-key-index_of : goal.bounds-key-index_of
-bounds-key-index_of c = omega (arith, picked_below c.loop-i.i _ _ c.key_bit_numbers-numbers.ensures c.index_of.ensures (omega arith))
+bounds-key-index_of c = omega (arith, picked_below _ _ _ c.key_bit_numbers-numbers.ensures c.index_of.ensures (omega arith))
 
 pub loop-i-preserved : goal.loop-i-preserved
 loop-i-preserved c =
