@@ -1,5 +1,5 @@
 /*
- * The KATAN stepping bench, for a driver in C: the calls of libdriver.a (`rt staticlib driver`). driver/example.c
+ * The KATAN stepping bench, for a driver in C: the calls of libdriver.a (`rt lib` in crates/driver). driver/example.c
  * shows them in use.
  *
  * Status. Each call but katan_version and katan_cycles returns 0, or the number of the first fault found. The faults

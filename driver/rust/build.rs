@@ -1,4 +1,4 @@
-//! Links the archive that `rt staticlib driver` writes. `KATAN_DRIVER` names another folder that holds it.
+//! Links the archive that `rt lib` in crates/driver writes. `KATAN_DRIVER` names another folder that holds it.
 
 use std::path::PathBuf;
 
@@ -7,12 +7,12 @@ fn main() {
     let folder = match std::env::var_os("KATAN_DRIVER") {
         Some(folder) => PathBuf::from(folder),
         None => PathBuf::from(std::env::var_os("CARGO_MANIFEST_DIR").unwrap())
-            .join("../../target/staticlib"),
+            .join("../../crates/driver/out"),
     };
     let archive = folder.join("libdriver.a");
     if !archive.exists() {
         panic!(
-            "{} is missing: run `rt staticlib driver` first",
+            "{} is missing: run `rt lib` in crates/driver first",
             archive.display()
         );
     }
