@@ -1,10 +1,5 @@
-use mathlib.Core.Path.{sym, ◌∙◌}
-use Rattle.katan.proofs.Copies.{it_fits, no_fit}
+use native.Mathlib.Omega.{arith}
 use Rattle.driver_layout.proofs.put_bench.Goals as goal
 
-pub returns-then-out-eq-BENCH_LENGTH : goal.returns-then-out-eq-BENCH_LENGTH
-returns-then-out-eq-BENCH_LENGTH c =
-    c.write_bench.ensures ∙ sym (it_fits _ _ c.args.out.now c.if-out-eq-BENCH_LENGTH.true)
-
-pub returns-else-out-eq-BENCH_LENGTH : goal.returns-else-out-eq-BENCH_LENGTH
-returns-else-out-eq-BENCH_LENGTH c = sym (no_fit _ _ c.args.out.now c.if-out-eq-BENCH_LENGTH.false)
+pub write_bench-requires : goal.write_bench-requires
+write_bench-requires c = omega arith

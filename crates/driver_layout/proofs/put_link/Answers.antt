@@ -1,10 +1,5 @@
-use mathlib.Core.Path.{sym, ◌∙◌}
-use Rattle.katan.proofs.Copies.{it_fits, no_fit}
+use native.Mathlib.Omega.{arith}
 use Rattle.driver_layout.proofs.put_link.Goals as goal
 
-pub returns-then-out-eq-LINK_LENGTH : goal.returns-then-out-eq-LINK_LENGTH
-returns-then-out-eq-LINK_LENGTH c =
-    c.write_link.ensures ∙ sym (it_fits _ _ c.args.out.now c.if-out-eq-LINK_LENGTH.true)
-
-pub returns-else-out-eq-LINK_LENGTH : goal.returns-else-out-eq-LINK_LENGTH
-returns-else-out-eq-LINK_LENGTH c = sym (no_fit _ _ c.args.out.now c.if-out-eq-LINK_LENGTH.false)
+pub write_link-requires : goal.write_link-requires
+write_link-requires c = omega arith
