@@ -2,11 +2,8 @@ use Rattle.script_answers.specs.Printed.{opened_line}
 use Rattle.script_answers.proofs.Lines.{opened_fits}
 use Rattle.script_answers.proofs.opened_line.Goals as goal
 
--- LOST slice-aggregate-filled : tie.Need-slice-aggregate-filled
--- LOST slice-aggregate-filled c = search rules
-
 pub filled-requires : goal.filled-requires
-filled-requires c = opened_fits c.args.variant 0
+filled-requires c = opened_fits _ 0
 
 pub returns : goal.returns
 unfolding opened_line

@@ -1,17 +1,19 @@
-use Prim.Native.Nat.{◌≤◌}
-use mathlib.Core.Path.{subst⁻¹}
+use Prim.Native.Nat.{ℕ, ◌≤◌}
+use mathlib.Core.Path.{ap, subst⁻¹, ◌∙◌}
+use mathlib.Core.List.{[], ◌∷◌}
 use Rattle.script_form.proofs.Blocks.{digits_fit}
-use Rattle.script_answers.specs.Printed.{answer_line}
+use Rattle.script_answers.specs.Printed.{line_as, answer_line, printed_as}
 use Rattle.script_answers.proofs.Lines.{at_fits}
 use Rattle.script_answers.proofs.reading_line.Goals as goal
 
 pub filled-requires : goal.filled-requires
-filled-requires c =
-    at_fits c.args.lane c.in-At.reading.position.0 c.block_digits.result c.in-At.reading.registers (subst⁻¹ (◌≤ 16) c.block_digits.ensures (digits_fit c.args.variant))
+filled-requires c = at_fits _ _ c.block_digits.result _ (subst⁻¹ (◌≤ 16) c.block_digits.ensures (digits_fit _))
 
 pub returns-in-At : goal.returns-in-At
 unfolding answer_line
-returns-in-At c = rw (c.in-At.is, ← c.block_digits.ensures) c.filled.ensures
+returns-in-At c =
+    let r = c.in-At.reading in
+    rw c.in-At.is (c.filled.ensures ∙ ap (λ (d : ℕ). printed_as (line_as d "(at % % *)" (c.args.lane ∷ r.position.0 ∷ r.registers ∷ []))) c.block_digits.ensures)
 
 pub returns-in-Refused : goal.returns-in-Refused
 unfolding answer_line

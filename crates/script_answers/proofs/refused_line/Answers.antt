@@ -1,13 +1,13 @@
-use Rattle.script_answers.specs.Printed.{answer_line}
+use Prim.Native.Nat.{ℕ}
+use mathlib.Core.Path.{ap, ◌∙◌}
+use Rattle.katan.specs.Checks.{refused}
+use Rattle.script_answers.specs.Printed.{answer_line, printed_as}
 use Rattle.script_answers.proofs.Lines.{refused_fits}
 use Rattle.script_answers.proofs.refused_line.Goals as goal
 
--- LOST slice-aggregate-filled : tie.Need-slice-aggregate-filled
--- LOST slice-aggregate-filled c = search rules
-
 pub filled-requires : goal.filled-requires
-filled-requires c = refused_fits c.refusal_number-number.result 0
+filled-requires c = refused_fits _ 0
 
 pub returns : goal.returns
 unfolding answer_line
-returns c = rw c.refusal_number-number.ensures at c.filled.ensures
+returns c = c.filled.ensures ∙ ap (λ (n : ℕ). printed_as (answer_line 0 0 (refused n))) c.refusal_number-number.ensures

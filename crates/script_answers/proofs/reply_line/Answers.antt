@@ -1,9 +1,12 @@
+use native.Mathlib.Omega.{arith}
+use lib.ListN.{length-append}
+use Rattle.script_form.proofs.Lengths.{decimal_most}
 use Rattle.script_answers.specs.Printed.{answer_line}
-use Rattle.script_answers.proofs.Lines.{done_fits, again_fits}
+use Rattle.script_answers.proofs.Lines.{again_fits}
 use Rattle.script_answers.proofs.reply_line.Goals as goal
 
 pub filled-requires : goal.filled-requires
-filled-requires c = done_fits c.in-Done.number c.in-Done.total
+filled-requires c = simp length-append (omega (arith, decimal_most c.in-Done.number, decimal_most c.in-Done.total))
 
 pub filled-requires-in-Again : goal.filled-requires-in-Again
 filled-requires-in-Again c = again_fits c.in-Again.number c.in-Again.total
