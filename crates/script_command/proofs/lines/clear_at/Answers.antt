@@ -6,9 +6,6 @@ use Rattle.script_command.specs.declared.Command.TheVariants.{Clear}
 use Rattle.script_command.proofs.Openings.{made_is, made_not}
 use Rattle.script_command.proofs.lines.clear_at.Goals as goal
 
--- LOST slice-aggregate-whole-at : tie.Need-slice-aggregate-whole-at
--- LOST slice-aggregate-whole-at c = search rules
-
 pub returns-then-found : goal.returns-then-found
 unfolding clear_in
 returns-then-found c =

@@ -7,9 +7,6 @@ use Rattle.script_command.proofs.Openings.{numbered_is, numbered_not, number_fit
 use borrow.Author.Rules.{rules}
 use Rattle.script_command.proofs.lines.numbered_at.Goals as goal
 
--- LOST slice-aggregate-fields-at : tie.Need-slice-aggregate-fields-at
--- LOST slice-aggregate-fields-at c = search rules
-
 pub overflow_cast-result : goal.overflow_cast-result
 overflow_cast-result c =
     let a = c.args in

@@ -8,9 +8,6 @@ use Rattle.script_command.proofs.Openings.{made_is, made_not, read_fits}
 use borrow.Author.Rules.{rules}
 use Rattle.script_command.proofs.lines.read_at.Goals as goal
 
--- LOST slice-aggregate-whole-at : tie.Need-slice-aggregate-whole-at
--- LOST slice-aggregate-whole-at c = search rules
-
 pub overflow_cast-result : goal.overflow_cast-result
 overflow_cast-result c =
     let a = c.args in
