@@ -12,7 +12,7 @@ use Rattle.bench.specs.Preview.{preview_of}
 use Rattle.driver_layout.specs.Layout.{bench_length, bench_in, link_in}
 use Rattle.driver_layout.proofs.Fitted.{bench_read}
 use Rattle.driver_reads.proofs.Held.{either}
-use Rattle.driver_bench.specs.Calls.{arrive_call, preview_call}
+use Rattle.driver_bench.specs.Calls.{arrival_words, arrive_call, preview_call}
 use Rattle.driver_bench.proofs.Held.{found_by_itself}
 use Rattle.driver_bench.proofs.Previews.{copied, wrong_size, right_size, same_preview}
 use Rattle.driver_bench.proofs.preview.Goals as goal
@@ -45,7 +45,7 @@ returns-then-answer-ne-ARRIVAL_WORDS c =
     let a = c.args in
     let sized = c.if-bench-ne-BENCH_LENGTH.false in
     let is = bench_read a.bench.now c.bench_in-found.result sized c.bench_in-found.ensures in
-    rw (eq-eqb _ _ sized, eq-eqb _ _ c.if-link-ne-LINK_LENGTH.false, ne_eqb _ _ c.if-answer-ne-ARRIVAL_WORDS.true, either (held_check (bench_in a.bench.now)).fault)
+    rw (eq-eqb _ _ sized, eq-eqb _ _ c.if-link-ne-LINK_LENGTH.false, ne_eqb (length a.answer.now) arrival_words c.if-answer-ne-ARRIVAL_WORDS.true, either (held_check (bench_in a.bench.now)).fault)
     (same_number a.bench.now a.room.now c.bench_in-found.result sized is c.refusal_number-then-answer-ne-ARRIVAL_WORDS.ensures c.bench_or_length-then-answer-ne-ARRIVAL_WORDS.ensures, refl, room_after a.bench.now a.room.now c.bench_in-found.result sized is c.put_copy.ensures)
 
 pub returns-then-room-ne-BENCH_LENGTH : goal.returns-then-room-ne-BENCH_LENGTH
@@ -55,7 +55,7 @@ returns-then-room-ne-BENCH_LENGTH c =
     let sized = c.if-bench-ne-BENCH_LENGTH.false in
     let is = bench_read a.bench.now c.bench_in-found.result sized c.bench_in-found.ensures in
     let wrong = wrong_size a.bench.now a.room.now c.put_copy.ensures c.if-room-ne-BENCH_LENGTH.true in
-    rw (eq-eqb _ _ sized, eq-eqb _ _ c.if-link-ne-LINK_LENGTH.false, eq-eqb _ _ c.if-answer-ne-ARRIVAL_WORDS.false, ne_eqb _ _ wrong, either (held_check (bench_in a.bench.now)).fault)
+    rw (eq-eqb _ _ sized, eq-eqb _ _ c.if-link-ne-LINK_LENGTH.false, eq-eqb (length a.answer.now) arrival_words c.if-answer-ne-ARRIVAL_WORDS.false, ne_eqb _ _ wrong, either (held_check (bench_in a.bench.now)).fault)
     (same_number a.bench.now a.room.now c.bench_in-found.result sized is c.refusal_number-then-room-ne-BENCH_LENGTH.ensures c.bench_or_length-then-room-ne-BENCH_LENGTH.ensures, refl, room_after a.bench.now a.room.now c.bench_in-found.result sized is c.put_copy.ensures ∙ no_fit _ _ a.room.now wrong)
 
 pub returns : goal.returns
@@ -68,5 +68,5 @@ returns c =
     let copy = room_after a.bench.now a.room.now c.bench_in-found.result sized is c.put_copy.ensures ∙ it_fits _ _ a.room.now fits in
     let r = same_preview a.bench.now a.link.now a.sent.now a.answer.now is c.link_in.ensures copy
     c.preview-shown.result c.preview-shown.ensures (c.put_reply.ensures.0, c.put_preview.ensures, c.put_reply.ensures.1) in
-    rw (eq-eqb _ _ sized, eq-eqb _ _ c.if-link-ne-LINK_LENGTH.false, eq-eqb _ _ c.if-answer-ne-ARRIVAL_WORDS.false, eq-eqb _ _ fits, found_by_itself (bench_in a.bench.now) (link_in a.link.now) a.sent.now)
+    rw (eq-eqb _ _ sized, eq-eqb _ _ c.if-link-ne-LINK_LENGTH.false, eq-eqb (length a.answer.now) arrival_words c.if-answer-ne-ARRIVAL_WORDS.false, eq-eqb _ _ fits, found_by_itself (bench_in a.bench.now) (link_in a.link.now) a.sent.now)
     (r.0, r.2, r.1)
