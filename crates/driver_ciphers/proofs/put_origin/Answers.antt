@@ -17,7 +17,7 @@ returns-in-Found c =
     let is = c.checked_lent.ensures a.out.now refl in
     let sound = c.in-Sound.is in
     record {
-      value = rw (passes a.variant origin_words a.out.now _ is (origin_outcome a.answer) sound, c.in-Found.is);
+      value = rw (passes a.variant origin_words a.out.now _ is (origin_outcome a.answer) sound, c.in-Found.is) refl;
       out_after = rw (passes a.variant origin_words a.out.now _ is (origin_outcome a.answer) sound, c.in-Found.is) c.put_clock_bits.ensures;
     }
 

@@ -20,7 +20,7 @@ returns-in-Given c =
     let sound = c.in-Sound.is in
     let h = lent_length a.variant 1 a.out.now _ is sound in
     record {
-      value = rw (passes a.variant 1 a.out.now _ is (word_outcome a.answer) sound, c.in-Given.is);
+      value = rw (passes a.variant 1 a.out.now _ is (word_outcome a.answer) sound, c.in-Given.is) refl;
       out_after = rw (passes a.variant 1 a.out.now _ is (word_outcome a.answer) sound, c.in-Given.is) (one_word _ a.out.now h);
     }
 
