@@ -1,6 +1,8 @@
 use mathlib.Core.Path.{◌≡◌, sym, ap, ◌∙◌}
+use mathlib.Core.Bool.{false}
 use mathlib.Core.List.{List}
 use Prim.Native.Nat.{ℕ}
+use borrow.Author.Rules.{rules}
 use Rattle.katan.specs.Checks.{Outcome, value, checked}
 use Rattle.bench_record.specs.declared.Record.{Record}
 use Rattle.bench_record.specs.Fields.{decode}
@@ -18,7 +20,8 @@ returns-then-bad c =
 pub returns-then-sent-ne-LENGTH : goal.returns-then-sent-ne-LENGTH
 returns-then-sent-ne-LENGTH c =
     let a = c.args in
-    refused_2 a.bench a.link a.sent.now (sym c.bad_bench-bad.ensures ∙ c.if-bad.false) c.if-sent-ne-LENGTH.true
+    let sound : c.bad_bench-bad.result ≡ false = search rules in
+    refused_2 a.bench a.link a.sent.now (sym c.bad_bench-bad.ensures ∙ sound) c.if-sent-ne-LENGTH.true
 
 -- checks 3 to 8 of the record's bytes, and what they answer
 form : (variant : ℕ) (fields : Record) (sent : List ℕ) (a : Outcome (Unit {0})) → fields ≡ decode sent → a ≡ checked (field_checks variant fields) (value (tt {0}))

@@ -1,5 +1,6 @@
 use mathlib.Core.Path.{◌≡◌, sym, ap, ◌∙◌}
 use Prim.Native.Nat.{ℕ}
+use native.Mathlib.Omega.{arith}
 use mathlib.Core.List.{List}
 use Rattle.bench_record.specs.declared.Record.{Record}
 use Rattle.bench_record.specs.Fields.{decode}
@@ -19,7 +20,7 @@ same_number fields sent e = ap (λ (r : Record). r.number) e
 pub returns-then-number-last : goal.returns-then-number-last
 returns-then-number-last c =
     let a = c.args in
-    sym (turn_counts a.link.last a.link.bytes a.sent.now (sym (same_number c.args.fields c.args.sent.now c.requires) ∙ c.if-number-last.true))
+    sym (turn_counts a.link.last a.link.bytes a.sent.now (omega (arith, same_number c.args.fields c.args.sent.now c.requires)))
 
 pub returns-then-last-eq0 : goal.returns-then-last-eq0
 returns-then-last-eq0 c =
