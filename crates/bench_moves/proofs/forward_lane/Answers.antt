@@ -1,3 +1,4 @@
+use native.Mathlib.Omega.{arith}
 use Rattle.bench.specs.Steps.{forward_lane, forward_moved}
 use Rattle.bench_moves.proofs.Sound.{held, held_in}
 use Rattle.bench_moves.proofs.forward_lane.Goals as goal
@@ -9,7 +10,7 @@ ahead-d-requires c =
 pub loaded_at-next-requires : goal.loaded_at-next-requires
 loaded_at-next-requires c =
     let is = c.in-Held.is in
-    (held c.args.variant is c.requires, c.ahead-d.ensures.1)
+    (held c.args.variant is c.requires, omega arith)
 
 pub returns-in-Empty : goal.returns-in-Empty
 unfolding forward_lane forward_moved
