@@ -1,4 +1,6 @@
-use mathlib.Core.Path.{refl, sym, ◌∙◌}
+use mathlib.Core.Path.{◌≡◌, refl, sym, ◌∙◌}
+use mathlib.Core.Bool.{false}
+use borrow.Author.Rules.{rules}
 use Rattle.katan.proofs.Variants.{is_variant}
 use Rattle.bench_replay.proofs.Promise.{promise_1, promise_2, promise_run}
 use Rattle.bench_replay.proofs.replay.Goals as goal
@@ -12,7 +14,8 @@ returns-then-bad c =
 pub returns-then-not-whole : goal.returns-then-not-whole
 returns-then-not-whole c =
     let a = c.args in
-    let sound = sym c.bad_variant-bad.ensures ∙ c.if-bad.false in
+    let known : c.bad_variant-bad.result ≡ false = search rules in
+    let sound = sym c.bad_variant-bad.ensures ∙ known in
     let both = promise_2 a.variant a.calls.now a.out.now _ _ _ sound (sym c.fits-whole.ensures ∙ c.if-not-whole.true) refl c.fresh_bench-bench.ensures refl in
     record { answer_value = both.0; out_after = both.1.0; bench_value = both.1.1.0; by_index = both.1.1.1 }
 
