@@ -1,18 +1,24 @@
 use mathlib.Core.Path.{◌≡◌, sym, ap, ◌∙◌}
-use Rattle.katan.specs.Checks.{value}
-use Rattle.bench.specs.Checks.{counts, decision}
+use Rattle.katan.specs.Checks.{value, Outcome}
+use Rattle.bench.specs.Checks.{counts, decision, Turn}
 use Rattle.bench.specs.Bench.{bench_view, counted_effect, effect_as, arrive_of}
 use Rattle.bench.proofs.Turns.{counts_next}
 use Rattle.bench_record.proofs.Parts.{whole_record}
+use Rattle.bench_checks.specs.declared.Decision.{Decision}
+use Rattle.bench_checks.specs.declared.Decision.TheVariants.{Counts}
 use Rattle.bench_checks.specs.Decision.{decision_outcome}
 use Rattle.bench_stepping.proofs.Effects.{counts_sound, repeat_effect, refused_effect}
 use borrow.Author.Rules.{rules}
 use Rattle.bench_stepping.proofs.arrive_core.Goals as goal
 
+-- found wherever the decision stands, so that what counts is an arrival that says so
+counted : (d : Decision) (o : Outcome Turn) → d ≡ Counts → decision_outcome d ≡ o → o ≡ value counts
+counted d o e told = sym told ∙ ap decision_outcome e
+
 pub step-after-requires : goal.step-after-requires
 step-after-requires c =
     let a = c.args in
-    let counting : decision (bench_view a.bench a.link) a.sent.now ≡ value counts = sym (ap decision_outcome (sym c.in-Counts.is) ∙ c.decided-found.ensures.1) in (
+    let counting : decision (bench_view a.bench a.link) a.sent.now ≡ value counts = search (rules, counted, c.decided-found.ensures.1) in (
       counts_sound a.bench a.link a.sent.now counting,
       rw c.decided-found.ensures.0 (counts_next (bench_view a.bench a.link) a.sent.now counting).0.lane_in,
     )
