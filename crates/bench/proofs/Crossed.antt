@@ -19,7 +19,8 @@ use Rattle.bench.specs.Machine.{loaded, step_as, moved_as, step_all, total_of}
 use Rattle.bench.specs.Calls.{again, state_after, answers_to}
 use Rattle.bench.specs.Checks.{LaneView, empty_lane, loaded_lane, lane_fault, any_lane_fault, arrival_checks, decision}
 use Rattle.bench.specs.Model.{fresh_model, machine_view, model_view, after_counted, arrival_as, model_transition}
-use Rattle.bench.specs.Bench.{empty_slot, slot_view}
+use Rattle.std.specs.Prelude.{None}
+use Rattle.bench.specs.Bench.{lane_view}
 use Rattle.bench.specs.Claim.{bench_after, model_after, model_answers, machine_after}
 use Rattle.bench.specs.Exchange.{numbered, Apart, NotSent, last_after, in_turn, NeitherSent, SameTotals, five_loaded, five_forward, five_back, CommonLane, six_load, six_again, LaterRecord}
 use Rattle.bench.proofs.Lists.{same_more, every_list}
@@ -63,7 +64,7 @@ unfolding machine_view
 lanes_differ e =
     let one = (every_list 4 (omega arith) (omega arith) (in_turn 4 five_loaded five_forward five_back)).same_lanes 5 (omega arith) ∙ ap (machine_view 4) computed.forward_first in
     let two = (every_list 4 (omega arith) (omega arith) (in_turn 4 five_loaded five_back five_forward)).same_lanes 5 (omega arith) ∙ ap (machine_view 4) computed.back_first in
-    let z : ◌≡◌ {A = ℕ} 0 3 = ap position_of (sym one ∙ ap (λ (b : Bench). slot_view (get_or b.slots 5 empty_slot)) e ∙ two) in
+    let z : ◌≡◌ {A = ℕ} 0 3 = ap position_of (sym one ∙ ap (λ (b : Bench). lane_view (get_or b.slots 5 None)) e ∙ two) in
     absurd (omega arith)
 
 -- THEOREM: two records with a common lane that do not commute

@@ -11,7 +11,8 @@ use Rattle.katan.proofs.KeyNumbers.{number_of_key}
 use Rattle.katan.proofs.Variants.{variant_sound}
 use Rattle.katan.specs.Sizes.{lane_count}
 use Rattle.bench_record.specs.Fields.{decode, kind}
-use Rattle.bench.specs.declared.Slot.{Slot}
+use Rattle.std.specs.Prelude.{Option}
+use Rattle.bench.specs.declared.Loaded.{Loaded}
 use Rattle.bench.specs.Calls.{Call, arrival, reading, done, again, Answer, state_after, answers_to}
 use Rattle.bench.specs.Checks.{LaneView, View, Turn, counts, repeats, decision, read_outcome}
 use Rattle.bench.specs.Model.{Model, fresh_model, machine_view, model_view, after_counted, arrival_as, model_transition}
@@ -113,7 +114,7 @@ module _ (v : ℕ) where
       let b = still_kept others in
       let x = (bench_after v calls).bench in
       let y = (bench_after v others).bench in
-      ap₂ (λ (variant : ℕ) (slots : List Slot). record { variant = variant; slots = slots }) (a.variant ∙ sym b.variant)
+      ap₂ (λ (variant : ℕ) (slots : List (Option Loaded)). record { variant = variant; slots = slots }) (a.variant ∙ sym b.variant)
       (same_slots v x.slots y.slots (model_after v calls).machines a.lanes (subst (AllFollow v y.slots) (sym e) b.lanes))
 
 -- THEOREM: for every variant and every list of calls, the bench follows the reference model

@@ -1,6 +1,7 @@
 -- For code over these definitions: one turn of each loop, a lane's view, a read.
 -- Assumes nothing.
 use mathlib.Core.Path.{◌≡◌, refl}
+use Rattle.std.specs.Prelude.{Option, None}
 use mathlib.Core.Bool.{false, ◌||◌}
 use mathlib.Core.List.{List, ◌++◌, map, append_assoc}
 use Prim.Native.Nat.{ℕ, suc, ◌+◌, ◌/◌, ◌%◌, ◌<◌}
@@ -10,42 +11,41 @@ use borrow.Author.Tests.{lt-leb}
 use lib.ListN.{length, get_or, take, drop, set, get_or-map}
 use lib.Seq.{drop-cons, take-suc-set, drop-set-lt}
 use Rattle.katan.specs.Sizes.{lane_count}
-use Rattle.bench.specs.declared.Lane.{Lane}
-use Rattle.bench.specs.declared.Slot.{Slot}
+use Rattle.bench.specs.declared.Loaded.{Loaded}
 use Rattle.bench.specs.declared.Bench.{Bench}
 use Rattle.bench.specs.Checks.{LaneView, empty_lane, loaded_lane, lane_fault, any_lane_fault, is_empty, read_checks, lane_answer, read_outcome}
-use Rattle.bench.specs.Bench.{empty_slot, slot_view, lanes_of, held_check, read_of}
+use Rattle.bench.specs.Bench.{lane_view, lanes_of, held_check, read_of}
 use Rattle.bench.specs.Steps.{step_slots, moved_slots}
 use Rattle.bench.specs.inner.Slots.{step_slot, moved_slot}
 
 -- ---- check 1 over the lanes
 
-pub faults_on : (v : ℕ) (ss : List Slot) (i : ℕ) → i < length ss
-    → any_lane_fault v (map slot_view (drop i ss)) ≡ (lane_fault v (slot_view (get_or ss i empty_slot)) || any_lane_fault v (map slot_view (drop (i + 1) ss)))
+pub faults_on : (v : ℕ) (ss : List (Option Loaded)) (i : ℕ) → i < length ss
+    → any_lane_fault v (map lane_view (drop i ss)) ≡ (lane_fault v (lane_view (get_or ss i None)) || any_lane_fault v (map lane_view (drop (i + 1) ss)))
 unfolding any_lane_fault
-faults_on v ss i h = rw (add-one, drop-cons ss i empty_slot h)
+faults_on v ss i h = rw (add-one, drop-cons ss i None h)
 
 -- ---- a step over the slots, with m what is left of the mask
 
-module _ (ss : List Slot) (i m : ℕ) (x : Slot) (h : i < length ss) where
-  pub steps_on : (f : Lane → Lane) → x ≡ step_slot f (m % 2) (get_or ss i empty_slot)
+module _ (ss : List (Option Loaded)) (i m : ℕ) (x : Option Loaded) (h : i < length ss) where
+  pub steps_on : (f : Option Loaded → Option Loaded) → x ≡ step_slot f (m % 2) (get_or ss i None)
       → take (i + 1) (set ss i x) ++ step_slots f (m / 2) (drop (i + 1) (set ss i x)) ≡ take i ss ++ step_slots f m (drop i ss)
   unfolding step_slots
   steps_on f e =
       let lt : i < suc i = omega arith in
-      simp (add-one, take-suc-set ss i x h, drop-set-lt (suc i) ss i x lt, append_assoc, drop-cons ss i empty_slot h) (simp e)
+      simp (add-one, take-suc-set ss i x h, drop-set-lt (suc i) ss i x lt, append_assoc, drop-cons ss i None h) (simp e)
 
-  pub total_on : (f : Lane → ℕ) (n : ℕ) → n ≡ moved_slot f (m % 2) (get_or ss i empty_slot)
+  pub total_on : (f : Option Loaded → ℕ) (n : ℕ) → n ≡ moved_slot f (m % 2) (get_or ss i None)
       → n + moved_slots f (m / 2) (drop (i + 1) (set ss i x)) ≡ moved_slots f m (drop i ss)
   unfolding moved_slots
   total_on f n e =
       let lt : i < suc i = omega arith in
-      simp (add-one, drop-set-lt (suc i) ss i x lt, drop-cons ss i empty_slot h) (simp e)
+      simp (add-one, drop-set-lt (suc i) ss i x lt, drop-cons ss i None h) (simp e)
 
 -- ---- a lane at its place
 
-pub slot_at : (ss : List Slot) (i : ℕ) → get_or (map slot_view ss) i empty_lane ≡ slot_view (get_or ss i empty_slot)
-slot_at ss i = get_or-map slot_view ss i empty_slot
+pub slot_at : (ss : List (Option Loaded)) (i : ℕ) → get_or (map lane_view ss) i empty_lane ≡ lane_view (get_or ss i None)
+slot_at ss i = get_or-map lane_view ss i None
 
 -- ---- a read
 

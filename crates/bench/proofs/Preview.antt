@@ -5,13 +5,14 @@ use mathlib.Core.List.{List, [], ◌∷◌}
 use Prim.Native.Nat.{ℕ}
 use native.Mathlib.Omega.{arith}
 use lib.ListN.{get_or}
+use Rattle.std.specs.Prelude.{None}
 use Rattle.katan.specs.Checks.{Outcome, value, refused}
 use Rattle.bench.specs.declared.Bench.{Bench}
 use Rattle.bench.specs.declared.Link.{Link}
 use Rattle.bench.specs.Calls.{arrival, done, again, Answer, state_after, answers_to}
 use Rattle.bench.specs.Checks.{LaneView, Turn, counts, repeats, decision}
 use Rattle.bench.specs.Model.{Model, fresh_model, model_transition}
-use Rattle.bench.specs.Bench.{empty_slot, slot_view, bench_view, Effect, counted_effect, effect_as, arrive_of, State, fresh_state, bench_transition}
+use Rattle.bench.specs.Bench.{lane_view, bench_view, Effect, counted_effect, effect_as, arrive_of, State, fresh_state, bench_transition}
 use Rattle.bench.specs.Preview.{preview_of, EveryOwnLanes, Event, call, preview, answered, previewed, bench_event, model_event, calls_of, answers_of, EveryListWithPreviews, TwoListsWithPreviews, Demand3WithPreviews}
 use Rattle.bench.proofs.Follow.{same_views}
 use Rattle.bench.proofs.Lists.{Keeps, same_call, fresh_keeps, every_list, two_lists}
@@ -88,7 +89,7 @@ every_list_with_previews v least most events =
 -- THEOREM: two lists, whatever previews stand in either
 pub two_lists_with_previews : TwoListsWithPreviews
 two_lists_with_previews v least most events others i lt same =
-    let lane : State → LaneView = λ x. slot_view (get_or x.bench.slots i empty_slot) in
+    let lane : State → LaneView = λ x. lane_view (get_or x.bench.slots i None) in
     ap lane (bench_calls v events (fresh_state v)).1
     ∙ two_lists v least most (calls_of events) (calls_of others) i lt same
     ∙ sym (ap lane (bench_calls v others (fresh_state v)).1)

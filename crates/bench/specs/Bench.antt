@@ -1,42 +1,37 @@
 -- The bench and the link: what an arrival makes of them, and what a read gives (document 01, "Records and turns").
 -- Assumes nothing.
-use Rattle.std.specs.Prelude.{ℕ, List, map, replicate}
+use Rattle.std.specs.Prelude.{ℕ, List, Option, Some, None, Result, Ok, Err, map, replicate}
+use Rattle.katan.specs.declared.Refusal.{Refusal}
 use Rattle.katan.specs.Checks.{number_of, Outcome, value, refused, Check}
 use Rattle.katan.specs.Sizes.{lane_count}
 use Rattle.bench_record.specs.Fields.{record_length, decode, kind}
-use Rattle.bench.specs.declared.Lane.{Lane}
-use Rattle.bench.specs.declared.Lane.TheVariants.{Empty, Held}
-use Rattle.bench.specs.declared.Slot.{Slot}
+use Rattle.bench.specs.declared.Loaded.{Loaded}
+use Rattle.bench.specs.declared.Reading.{Reading}
 use Rattle.bench.specs.declared.Bench.{Bench}
 use Rattle.bench.specs.declared.Link.{Link}
 use Rattle.bench.specs.declared.Reply.{Reply}
-use Rattle.bench.specs.declared.Reply.TheVariants.{Done, Again, Refused}
+use Rattle.bench.specs.declared.Reply.TheVariants.{Done, Again}
 use Rattle.bench.specs.declared.ArrivalResult.{ArrivalResult}
-use Rattle.bench.specs.declared.ReadAnswer.{ReadAnswer}
-use Rattle.bench.specs.declared.ReadAnswer.TheVariants.{At, Refused as ReadRefused}
 use Rattle.bench.specs.Calls.{Call, arrival, reading, done, again, at, Answer}
 use Rattle.bench.specs.Checks.{LaneView, empty_lane, loaded_lane, View, bench_check, Turn, counts, repeats, decision, read_outcome}
 use Rattle.bench.specs.Steps.{slots_as, total_as}
 
--- ---- document 01's answer for each case of an enum
+-- ---- document 01's answer for each that the code gives
 
-abbrev pub reply_answer : Reply → Answer
-reply_answer (Done n t) = value (done n t)
-reply_answer (Again n t) = value (again n t)
-reply_answer (Refused r) = refused (number_of r)
+abbrev pub reply_answer : Result Reply Refusal → Answer
+reply_answer (Ok (Done n t)) = value (done n t)
+reply_answer (Ok (Again n t)) = value (again n t)
+reply_answer (Err r) = refused (number_of r)
 
-abbrev pub reading_answer : ReadAnswer → Answer
-reading_answer (At r) = value (at r)
-reading_answer (ReadRefused r) = refused (number_of r)
+abbrev pub reading_answer : Result Reading Refusal → Answer
+reading_answer (Ok r) = value (at r)
+reading_answer (Err r) = refused (number_of r)
 
 -- ---- fresh
 
-abbrev pub empty_slot : Slot
-empty_slot = record { lane = Empty }
-
 -- a fresh bench has 64 empty lanes
 abbrev pub fresh_bench : ℕ → Bench
-fresh_bench v = record { variant = v; slots = replicate lane_count empty_slot }
+fresh_bench v = record { variant = v; slots = replicate lane_count None }
 
 -- a fresh link: no number has counted
 abbrev pub fresh_link : Link
@@ -44,15 +39,12 @@ fresh_link = record { last = 0; bytes = replicate record_length 0; total = 0 }
 
 -- ---- what the checks look at
 
-abbrev pub lane_view : Lane → LaneView
-lane_view Empty = empty_lane
-lane_view (Held h) = loaded_lane (record { position = h.position; registers = h.registers })
-
-abbrev pub slot_view : Slot → LaneView
-slot_view s = lane_view s.lane
+abbrev pub lane_view : Option Loaded → LaneView
+lane_view None = empty_lane
+lane_view (Some h) = loaded_lane (record { position = h.position; registers = h.registers })
 
 abbrev pub lanes_of : Bench → List LaneView
-lanes_of b = map slot_view b.slots
+lanes_of b = map lane_view b.slots
 
 unfoldable pub bench_view : Bench → Link → View
 bench_view b l = record { variant = b.variant; lanes = lanes_of b; last = l.last; latest = l.bytes }

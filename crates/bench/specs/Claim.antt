@@ -1,6 +1,6 @@
 -- Demand 3, one statement: the claim about every list of calls, and its consequence for two lists. A law of turns that no test reaches.
 -- Assumes nothing.
-use Rattle.std.specs.Prelude.{ℕ, ◌<◌, ◌≤◌, ◌≡◌, false, List, map, get_or}
+use Rattle.std.specs.Prelude.{ℕ, ◌<◌, ◌≤◌, ◌≡◌, false, List, None, map, get_or}
 use Rattle.katan.specs.Bit.{AreBytes}
 use Rattle.katan.specs.Checks.{value}
 use Rattle.katan.specs.Sizes.{lane_count}
@@ -9,7 +9,7 @@ use Rattle.bench.specs.Machine.{Machine, empty}
 use Rattle.bench.specs.Calls.{Call, Answer, state_after, answers_to}
 use Rattle.bench.specs.Checks.{LaneView, View, bench_check, Turn, repeats, decision}
 use Rattle.bench.specs.Model.{Model, fresh_model, machine_view, model_transition, made_by}
-use Rattle.bench.specs.Bench.{empty_slot, slot_view, State, fresh_state, bench_transition}
+use Rattle.bench.specs.Bench.{lane_view, State, fresh_state, bench_transition}
 
 module _ (v : ℕ) (calls : List Call) where
   -- bench and link after a list of calls from the fresh ones, and the answers
@@ -32,7 +32,7 @@ module _ (v : ℕ) (calls : List Call) where
 
   -- lane i afterwards, and its machine
   abbrev pub lane_after : ℕ → LaneView
-  lane_after i = slot_view (get_or bench_after.bench.slots i empty_slot)
+  lane_after i = lane_view (get_or bench_after.bench.slots i None)
 
   abbrev pub machine_after : ℕ → Machine
   machine_after i = get_or model_after.machines i empty

@@ -1,7 +1,7 @@
 -- Try a record first (document 02, (v)): what a record would be answered, and the lanes that it would leave. Previews may stand anywhere in a list
 -- without effect on it.
 -- Assumes nothing.
-use Rattle.std.specs.Prelude.{ℕ, ◌<◌, ◌≤◌, ◌≡◌, List, [], ◌∷◌, map, get_or}
+use Rattle.std.specs.Prelude.{ℕ, ◌<◌, ◌≤◌, ◌≡◌, List, [], ◌∷◌, None, map, get_or}
 use Rattle.katan.specs.Checks.{value, refused}
 use Rattle.katan.specs.Sizes.{lane_count}
 use Rattle.bench_record.specs.Fields.{AllSaySame}
@@ -10,7 +10,7 @@ use Rattle.bench.specs.declared.Link.{Link}
 use Rattle.bench.specs.Calls.{Call, arrival, again, Answer, state_after, answers_to}
 use Rattle.bench.specs.Checks.{LaneView}
 use Rattle.bench.specs.Model.{Model, fresh_model, machine_view, model_transition}
-use Rattle.bench.specs.Bench.{empty_slot, slot_view, lanes_of, arrive_of, State, fresh_state, bench_transition}
+use Rattle.bench.specs.Bench.{lane_view, lanes_of, arrive_of, State, fresh_state, bench_transition}
 use Rattle.bench.specs.Claim.{bench_after, bench_answers, model_after, counted_records, FollowsModel}
 
 -- ---- a preview
@@ -91,7 +91,7 @@ EveryListWithPreviews = (v : ℕ) → 1 ≤ v → v ≤ 6 → (events : List Eve
 
 -- lane i after a list with previews
 abbrev pub lane_after_events : ℕ → List Event → ℕ → LaneView
-lane_after_events v events i = slot_view (get_or (state_after bench_event (fresh_state v) events).bench.slots i empty_slot)
+lane_after_events v events i = lane_view (get_or (state_after bench_event (fresh_state v) events).bench.slots i None)
 
 -- two lists whose counted records say the same of a lane leave it alike, whatever previews stand in either
 abbrev pub TwoListsWithPreviews : Type 0

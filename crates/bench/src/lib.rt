@@ -12,21 +12,11 @@ pub struct Loaded {
     pub registers: u64,
 }
 
-#[derive(Clone, Copy)]
-pub enum Lane {
-    Empty,
-    Held(Loaded),
-}
-
-#[derive(Clone, Copy)]
-pub struct Slot {
-    pub lane: Lane,
-}
-
+// An empty lane is `None`.
 #[derive(Clone, Copy)]
 pub struct Bench {
     pub variant: u8,
-    pub slots: [Slot; LANES],
+    pub slots: [Option<Loaded>; LANES],
 }
 
 // The last counted number, 0 when fresh; its record and its total.
@@ -37,27 +27,26 @@ pub struct Link {
     pub total: u32,
 }
 
-// What an arrival answers: number and total, or the first fault found.
+// What an arrival that meets no fault answers: number and total.
 #[derive(Clone, Copy)]
 pub enum Reply {
     Done { number: u32, total: u32 },
     Again { number: u32, total: u32 },
-    Refused(Refusal),
 }
 
-// What an arrival leaves, and answers.
+// What an arrival leaves, and answers: a reply, or the first fault found.
 #[derive(Clone, Copy)]
 pub struct ArrivalResult {
     pub bench: Bench,
     pub link: Link,
-    pub reply: Reply,
+    pub reply: Result<Reply, Refusal>,
 }
 
 // The same where the link is lent.
 #[derive(Clone, Copy)]
 pub struct LentArrivalResult {
     pub bench: Bench,
-    pub reply: Reply,
+    pub reply: Result<Reply, Refusal>,
 }
 
 // What a loaded lane shows.
@@ -65,11 +54,4 @@ pub struct LentArrivalResult {
 pub struct Reading {
     pub position: RoundPosition,
     pub registers: u64,
-}
-
-// What a read answers: the lane's reading, or the first fault found.
-#[derive(Clone, Copy)]
-pub enum ReadAnswer {
-    At(Reading),
-    Refused(Refusal),
 }

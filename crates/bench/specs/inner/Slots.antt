@@ -1,12 +1,11 @@
 -- A step of one slot, with its bit of the mask.
 -- Assumes nothing.
-use Rattle.std.specs.Prelude.{ℕ, eqb}
+use Rattle.std.specs.Prelude.{ℕ, Option, eqb}
 use Rattle.katan.specs.Bit.{pick}
-use Rattle.bench.specs.declared.Lane.{Lane}
-use Rattle.bench.specs.declared.Slot.{Slot}
+use Rattle.bench.specs.declared.Loaded.{Loaded}
 
-abbrev pub step_slot : (Lane → Lane) → ℕ → Slot → Slot
-step_slot f bit s = pick (eqb bit 1) (record { lane = f s.lane }) s
+abbrev pub step_slot : (Option Loaded → Option Loaded) → ℕ → Option Loaded → Option Loaded
+step_slot f bit s = pick (eqb bit 1) (f s) s
 
-abbrev pub moved_slot : (Lane → ℕ) → ℕ → Slot → ℕ
-moved_slot f bit s = pick (eqb bit 1) (f s.lane) 0
+abbrev pub moved_slot : (Option Loaded → ℕ) → ℕ → Option Loaded → ℕ
+moved_slot f bit s = pick (eqb bit 1) (f s) 0
