@@ -1,3 +1,4 @@
 pub mod Fields
 pub mod Codec
 pub mod Checks
+pub mod Kinds

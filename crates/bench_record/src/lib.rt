@@ -5,21 +5,48 @@ ghost use Rattle.std.specs.Prelude.{◌≡◌, ◌++◌, ◌+◌, ◌-◌, ◌�
 ghost use Rattle.katan.specs.Bit.{bytes_of};
 ghost use Rattle.bench_record.specs.Fields.{record_length, part, same_bytes, decode};
 ghost use Rattle.bench_record.specs.Codec.{record_in, encode};
+ghost use Rattle.bench_record.specs.Kinds.{byte_of, ReadAs};
 
 use crate::bytes::bytes_in;
-use katan::Key;
+use katan::{Key, Refusal};
 use katan_numbers::byte_at;
 
 pub mod bytes;
 
 // The kinds of a record.
-pub const LOAD: u8 = 1;
+#[derive(Clone, Copy, Debug, PartialEq, Eq)]
+pub enum Kind {
+    Load = 1,
+    Forward = 2,
+    Back = 3,
+    Clear = 4,
+}
 
-pub const FORWARD: u8 = 2;
+impl From<Kind> for u8 {
+    ghost from_gives = { λ kind byte. byte ≡ byte_of kind };
 
-pub const BACK: u8 = 3;
+    fn from(kind: Kind) -> u8 {
+        kind as u8
+    }
+}
 
-pub const CLEAR: u8 = 4;
+// Check 3 of a byte.
+impl TryFrom<u8> for Kind {
+    type Error = Refusal;
+
+    ghost try_from_gives = { ReadAs };
+
+    #[tactic(auto, unfolding(crate::specs::Fields::kind_of))]
+    fn try_from(byte: u8) -> Result<Kind, Refusal> {
+        match byte {
+            1 => Ok(Kind::Load),
+            2 => Ok(Kind::Forward),
+            3 => Ok(Kind::Back),
+            4 => Ok(Kind::Clear),
+            _ => Err(Refusal::BadKind),
+        }
+    }
+}
 
 // Where each field of a record begins: it goes to where the next one does, numbers low byte first.
 pub const KIND_AT: usize = 0;
