@@ -6,18 +6,17 @@ use mathlib.Core.List.{[]}
 use mathlib.Core.Logic.{◌⊎◌, inl, inr, ⊎_elim}
 use Prim.Native.Nat.{ℕ, zero, suc, ◌-◌, ◌<◌, ◌≤◌}
 use native.Mathlib.Omega.{arith}
+use Rattle.std.specs.Prelude.{Result, Ok, Err}
 use borrow.Author.Tests.{ltb-false, ltb-true, leb-true, lt-ltb, le-ltb, le-leb}
 use lib.Dec.{leb, ltb}
 use lib.ListN.{get_or, get_or-eq_default}
 use Rattle.katan.specs.Bit.{pick}
 use Rattle.katan.specs.Variant.{row32, row48, row64, rows, row_of}
 use Rattle.katan.specs.Stride.{stride_of}
-use Rattle.katan.specs.Checks.{number_of, value, refused, variant_check}
-use Rattle.katan.specs.Rows.{row_outcome, row_answer}
+use Rattle.katan.specs.Checks.{number_of, value, refused, outcome, variant_check}
+use Rattle.katan.specs.Rows.{row_answer}
 use Rattle.katan.specs.declared.Row.{Row}
 use Rattle.katan.specs.declared.Refusal.{Refusal}
-use Rattle.katan.specs.declared.RowAnswer.{RowAnswer}
-use Rattle.katan.specs.declared.RowAnswer.TheVariants.{Found, Refused}
 use Rattle.katan.proofs.Checked.{fault_first}
 
 no_variant : (v : ℕ) → (v ≡ 1 → ⊥) → (v ≡ 2 → ⊥) → (v ≡ 3 → ⊥) → (v ≡ 4 → ⊥) → (v ≡ 5 → ⊥) → (v ≡ 6 → ⊥) → (variant_check v).fault ≡ true
@@ -69,14 +68,14 @@ is_variant v e = within v (leb 1 v) refl e
 pub variant_sound : (v : ℕ) → 1 ≤ v → v ≤ 6 → (variant_check v).fault ≡ false
 variant_sound v least most = rw (le-leb 1 v least, le-ltb 6 v most)
 
-pub row_found : (v : ℕ) (a : RowAnswer) (r : Row) → row_outcome a ≡ row_answer v → a ≡ Found r → IsVariant v r
+pub row_found : (v : ℕ) (a : Result Row Refusal) (r : Row) → outcome a ≡ row_answer v → a ≡ Ok r → IsVariant v r
 row_found v a r e f =
-    let g = passed r (row_of v) (variant_check v).fault (ap row_outcome (sym f) ∙ e) in
+    let g = passed r (row_of v) (variant_check v).fault (ap outcome (sym f) ∙ e) in
     let w = within v (leb 1 v) refl g.0 in
     record { no_fault = g.0; is_row = g.1; least = w.0; most = w.1 }
 
-pub row_refused : (v : ℕ) (a : RowAnswer) (r : Refusal) → row_outcome a ≡ row_answer v → a ≡ Refused r → ((variant_check v).fault ≡ true) × (number_of r ≡ 1)
-row_refused v a r e f = failed (number_of r) (row_of v) (variant_check v).fault (ap row_outcome (sym f) ∙ e)
+pub row_refused : (v : ℕ) (a : Result Row Refusal) (r : Refusal) → outcome a ≡ row_answer v → a ≡ Err r → ((variant_check v).fault ≡ true) × (number_of r ≡ 1)
+row_refused v a r e f = failed (number_of r) (row_of v) (variant_check v).fault (ap outcome (sym f) ∙ e)
 
 -- ---- the row of a variant
 

@@ -1,6 +1,6 @@
 -- Turned away (document 01): the checks by number, and the first fault found.
 -- Assumes nothing.
-use Rattle.std.specs.Prelude.{ℕ, ◌^◌, Bool, true, not, List, [], ◌∷◌, leb, ltb, eqb, length}
+use Rattle.std.specs.Prelude.{ℕ, ◌^◌, Bool, true, not, List, [], ◌∷◌, leb, ltb, eqb, length, Result, Ok, Err}
 use Rattle.katan.specs.Bit.{pick}
 use Rattle.katan.specs.Sizes.{key_bytes}
 use Rattle.katan.specs.Counter.{rounds}
@@ -31,6 +31,14 @@ number_of Contradiction = 16
 pub data Outcome (A : Type 0) : Type 0 where
   value : A → Outcome A
   refused : ℕ → Outcome A
+
+-- what the code gives back, a value or a refusal, as such an answer
+abbrev pub outcome_by : {A B : Type 0} → (A → B) → Result A Refusal → Outcome B
+outcome_by f (Ok x) = value (f x)
+outcome_by f (Err r) = refused (number_of r)
+
+abbrev pub outcome : {A : Type 0} → Result A Refusal → Outcome A
+outcome = outcome_by (λ x. x)
 
 -- a check: its number, and whether it finds a fault
 pub record Check : Type 0 where

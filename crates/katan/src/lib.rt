@@ -1,6 +1,12 @@
 // The KATAN and KTANTAN ciphers: types, and, in specs/, their definitions.
 #![tactic(auto)]
 
+ghost use Rattle.std.specs.Prelude.{◌≡◌};
+ghost use Rattle.katan.specs.Checks.{number_of};
+
+use std::error::Error;
+use std::fmt;
+
 // The rounds are 0 to 253.
 pub const ROUNDS: u8 = 254;
 
@@ -76,7 +82,7 @@ pub struct Key {
 }
 
 // Document 01's "Turned away", 1 to 13 in its order; then document 02's, from 14 on.
-#[derive(Clone, Copy)]
+#[derive(Clone, Copy, Debug, PartialEq, Eq)]
 pub enum Refusal {
     BadVariant,
     BadLength,
@@ -96,9 +102,36 @@ pub enum Refusal {
     Contradiction,
 }
 
-// What a call for a variant's row answers.
-#[derive(Clone, Copy)]
-pub enum RowAnswer {
-    Found(Row),
-    Refused(Refusal),
+// The number of a refusal: document 01's, and from 14 on document 02's.
+impl From<Refusal> for u8 {
+    ghost from_gives = { λ r n. n ≡ number_of r };
+
+    fn from(refusal: Refusal) -> u8 {
+        match refusal {
+            Refusal::BadVariant => 1,
+            Refusal::BadLength => 2,
+            Refusal::BadKind => 3,
+            Refusal::FieldNotZero => 4,
+            Refusal::BadLane => 5,
+            Refusal::BadPosition => 6,
+            Refusal::BadBlock => 7,
+            Refusal::EmptyMask => 8,
+            Refusal::OutOfTurn => 9,
+            Refusal::OtherBytes => 10,
+            Refusal::EmptyLane => 11,
+            Refusal::BadRate => 12,
+            Refusal::BadForm => 13,
+            Refusal::BeyondEnd => 14,
+            Refusal::BadClock => 15,
+            Refusal::Contradiction => 16,
+        }
+    }
 }
+
+impl fmt::Display for Refusal {
+    fn fmt<W: fmt::Write>(&self, f: &mut fmt::Formatter<W>) -> fmt::Result {
+        write!(f, "refused {}", u8::from(*self))
+    }
+}
+
+impl Error for Refusal {}

@@ -14,14 +14,14 @@ use katan::{Key, Registers, Row};
 pub fn byte_at(bytes: &[u8], i: usize) -> u8
     ensures { result ≡ slice_index bytes.now i }
 {
-    if i < bytes.len() { bytes[i] } else { 0 }
+    bytes.get(i).copied().unwrap_or(0)
 }
 
 // The same as a word.
 fn wide_at(bytes: &[u8], i: usize) -> u64
     ensures { (result ≡ slice_index bytes.now i) × (result < 256) }
 {
-    byte_at(bytes, i) as u64
+    u64::from(byte_at(bytes, i))
 }
 
 // The number in the first 8 bytes.
@@ -51,11 +51,9 @@ pub fn put_number(x: u64, out: &mut [u8])
     ensures { out.new ≡ bytes_of (length out.old) x }
 {
     let mut rest = x;
-    let mut i: usize = 0;
-    while i < out.len() {
-        out[i] = (rest % 256) as u8;
+    for byte in out.iter_mut() {
+        *byte = (rest % 256) as u8;
         rest = rest / 256;
-        i += 1;
     }
 }
 
@@ -65,7 +63,7 @@ fn write_key(key: Key, out: &mut [u8])
 {
     put_number(key.low, &mut out[0..katan::WORD_BYTES]);
     put_number(
-        key.high as u64,
+        u64::from(key.high),
         &mut out[katan::WORD_BYTES..katan::KEY_BYTES],
     );
 }
@@ -79,32 +77,13 @@ pub fn put_key(key: Key, out: &mut [u8])
     }
 }
 
-fn copy_words(words: &[u64], out: &mut [u64])
-    requires { length out.old ≡ length words.now }
-    ensures { out.new ≡ words.now }
-{
-    let end = words.len();
-    let mut at: usize = 0;
-    while at < end {
-        out[at] = words[at];
-        at += 1;
-    }
-}
-
 // A copy of any words, into memory of as many.
 pub fn put_words(words: &[u64], out: &mut [u64])
     ensures { out.new ≡ fitted (length words.now) words.now out.old }
 {
     if out.len() == words.len() {
-        copy_words(words, out);
+        out.copy_from_slice(words);
     }
-}
-
-// A byte as an index.
-pub fn index_of(x: u8) -> usize
-    ensures { result ≡ x }
-{
-    x as usize
 }
 
 // Bit i of a word, 0 past its end.
@@ -148,7 +127,7 @@ pub fn block_of(row: Row, s: Registers) -> u64
     ensures { result ≡ block row s % 2 ^ 64 }
 {
     if row.len2 < katan::WORD_BITS {
-        std::num::wrapping_add_u64(s.l1 << row.len2, s.l2)
+        (s.l1 << row.len2).wrapping_add(s.l2)
     } else {
         s.l2
     }

@@ -1,109 +1,127 @@
 // The variants' rows and tables, check 1 of a variant number, and the numbers of the refusals.
 #![tactic(auto)]
 
-ghost use Rattle.std.specs.Prelude.{◌≡◌, ◌*◌};
+ghost use Rattle.std.specs.Prelude.{◌≡◌, ◌*◌, ◌⊎◌};
 ghost use Rattle.katan.specs.Bit.{tabulate};
 ghost use Rattle.katan.specs.Counter.{counter, rounds};
 ghost use Rattle.katan.specs.Key.{key_bit_number};
+ghost use Rattle.katan.specs.declared.Row.{Row};
 ghost use Rattle.katan.specs.Variant.{row32, row48, row64, row_of, width_of, is_katan};
 ghost use Rattle.katan.specs.Stride.{stride_of};
-ghost use Rattle.katan.specs.Checks.{number_of, variant_check};
-ghost use Rattle.katan.specs.Rows.{row_outcome, row_answer};
+ghost use Rattle.katan.specs.Checks.{outcome, variant_check};
+ghost use Rattle.katan.specs.Lent.{status_of};
+ghost use Rattle.katan.specs.Rows.{row_answer};
+ghost use Rattle.katan_variants.specs.Widths.{IsRow, is_row32, is_row48, is_row64};
 
-use katan::{ClockNumber, Refusal, RoundPosition, Row, RowAnswer};
+use katan::{ClockNumber, Refusal, RoundPosition, Row};
 
 mod constants;
 
-// The number of a refusal: document 01's, and from 14 on document 02's.
-pub fn refusal_number(r: Refusal) -> u8
-    ensures { result ≡ number_of r }
+// What a call returns to a driver: 0, or the number of the first fault found.
+pub fn status(answer: Result<(), Refusal>) -> u8
+    ensures { result ≡ status_of (outcome answer) }
 {
-    match r {
-        Refusal::BadVariant => 1,
-        Refusal::BadLength => 2,
-        Refusal::BadKind => 3,
-        Refusal::FieldNotZero => 4,
-        Refusal::BadLane => 5,
-        Refusal::BadPosition => 6,
-        Refusal::BadBlock => 7,
-        Refusal::EmptyMask => 8,
-        Refusal::OutOfTurn => 9,
-        Refusal::OtherBytes => 10,
-        Refusal::EmptyLane => 11,
-        Refusal::BadRate => 12,
-        Refusal::BadForm => 13,
-        Refusal::BeyondEnd => 14,
-        Refusal::BadClock => 15,
-        Refusal::Contradiction => 16,
+    match answer {
+        Ok(()) => 0,
+        Err(refusal) => u8::from(refusal),
     }
 }
 
-// The row of KATAN32 and KTANTAN32.
-pub fn row_32() -> Row
-    ensures { result ≡ row32 }
-{
-    Row {
-        n: 32,
-        len1: 13,
-        len2: 19,
-        x1: 12,
-        x2: 7,
-        x3: 8,
-        x4: 5,
-        x5: 3,
-        y1: 18,
-        y2: 7,
-        y3: 12,
-        y4: 10,
-        y5: 8,
-        y6: 3,
-        clocks: 1,
+// A width of blocks. What is generic over it is made once for each width, with the row a constant, so that its taps are compiled in.
+pub trait Width {
+    ghost row: { Row };
+
+    // It is one of the three rows.
+    ghost known: { IsRow row };
+
+    fn row() -> Row
+        ensures { result ≡ row };
+}
+
+// KATAN32 and KTANTAN32.
+pub struct Bits32;
+
+impl Width for Bits32 {
+    ghost row = { row32 };
+
+    ghost known = { is_row32 };
+
+    fn row() -> Row {
+        Row {
+            n: 32,
+            len1: 13,
+            len2: 19,
+            x1: 12,
+            x2: 7,
+            x3: 8,
+            x4: 5,
+            x5: 3,
+            y1: 18,
+            y2: 7,
+            y3: 12,
+            y4: 10,
+            y5: 8,
+            y6: 3,
+            clocks: 1,
+        }
     }
 }
 
-// The row of KATAN48 and KTANTAN48.
-pub fn row_48() -> Row
-    ensures { result ≡ row48 }
-{
-    Row {
-        n: 48,
-        len1: 19,
-        len2: 29,
-        x1: 18,
-        x2: 12,
-        x3: 15,
-        x4: 7,
-        x5: 6,
-        y1: 28,
-        y2: 19,
-        y3: 21,
-        y4: 13,
-        y5: 15,
-        y6: 6,
-        clocks: 2,
+// KATAN48 and KTANTAN48.
+pub struct Bits48;
+
+impl Width for Bits48 {
+    ghost row = { row48 };
+
+    ghost known = { is_row48 };
+
+    fn row() -> Row {
+        Row {
+            n: 48,
+            len1: 19,
+            len2: 29,
+            x1: 18,
+            x2: 12,
+            x3: 15,
+            x4: 7,
+            x5: 6,
+            y1: 28,
+            y2: 19,
+            y3: 21,
+            y4: 13,
+            y5: 15,
+            y6: 6,
+            clocks: 2,
+        }
     }
 }
 
-// The row of KATAN64 and KTANTAN64.
-pub fn row_64() -> Row
-    ensures { result ≡ row64 }
-{
-    Row {
-        n: 64,
-        len1: 25,
-        len2: 39,
-        x1: 24,
-        x2: 15,
-        x3: 20,
-        x4: 11,
-        x5: 9,
-        y1: 38,
-        y2: 25,
-        y3: 33,
-        y4: 21,
-        y5: 14,
-        y6: 9,
-        clocks: 3,
+// KATAN64 and KTANTAN64.
+pub struct Bits64;
+
+impl Width for Bits64 {
+    ghost row = { row64 };
+
+    ghost known = { is_row64 };
+
+    fn row() -> Row {
+        Row {
+            n: 64,
+            len1: 25,
+            len2: 39,
+            x1: 24,
+            x2: 15,
+            x3: 20,
+            x4: 11,
+            x5: 9,
+            y1: 38,
+            y2: 25,
+            y3: 33,
+            y4: 21,
+            y5: 14,
+            y6: 9,
+            clocks: 3,
+        }
     }
 }
 
@@ -123,17 +141,17 @@ pub fn is_katan(variant: u8) -> bool
     variant <= LAST_KATAN
 }
 
-pub fn row_of(variant: u8) -> RowAnswer
-    ensures { row_outcome result ≡ row_answer variant }
+pub fn row_of(variant: u8) -> Result<Row, Refusal>
+    ensures { outcome result ≡ row_answer variant }
 {
     match variant {
-        1 => RowAnswer::Found(row_32()),
-        2 => RowAnswer::Found(row_48()),
-        3 => RowAnswer::Found(row_64()),
-        4 => RowAnswer::Found(row_32()),
-        5 => RowAnswer::Found(row_48()),
-        6 => RowAnswer::Found(row_64()),
-        _ => RowAnswer::Refused(Refusal::BadVariant),
+        1 => Ok(Bits32::row()),
+        2 => Ok(Bits48::row()),
+        3 => Ok(Bits64::row()),
+        4 => Ok(Bits32::row()),
+        5 => Ok(Bits48::row()),
+        6 => Ok(Bits64::row()),
+        _ => Err(Refusal::BadVariant),
     }
 }
 
@@ -153,8 +171,8 @@ pub fn width_of(variant: u8) -> usize
     ensures { result ≡ width_of variant }
 {
     match row_of(variant) {
-        RowAnswer::Found(row) => row.n,
-        RowAnswer::Refused(_) => row_32().n,
+        Ok(row) => row.n,
+        Err(_) => Bits32::row().n,
     }
 }
 
@@ -163,7 +181,7 @@ pub fn first_clock(row: Row, at: RoundPosition) -> ClockNumber
     ensures { result.0 ≡ row.clocks * at.0 }
 {
     let clocks = row.clocks as usize;
-    let rounds = at.0 as usize;
+    let rounds = usize::from(at.0);
     ClockNumber(clocks * rounds)
 }
 
@@ -179,4 +197,22 @@ pub fn key_bit_numbers() -> [u8; katan::ROUND_KEYS]
     ensures { result ≡ tabulate key_bit_number 0 (2 * rounds) }
 {
     constants::KEY_BIT_NUMBERS
+}
+
+// The two tables together. `counters` has T of each round, `numbers` the KTANTAN key bit numbers, ka's and kb's of each round.
+#[derive(Clone, Copy)]
+pub struct Tables {
+    pub counters: [u8; katan::ROUND_COUNT],
+    pub numbers: [u8; katan::ROUND_KEYS],
+    ghost counters_are: { counters ≡ tabulate counter 0 rounds },
+    ghost numbers_are: { numbers ≡ tabulate key_bit_number 0 (2 * rounds) },
+}
+
+impl Tables {
+    pub fn new() -> Tables {
+        Tables {
+            counters: counters(),
+            numbers: key_bit_numbers(),
+        }
+    }
 }
