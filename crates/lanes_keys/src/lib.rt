@@ -13,17 +13,6 @@ use katan::{KEY_BITS, ROUND_KEYS};
 // From this word on, the doubled distances of the rule of k(i) reach no further back than the first word.
 const TWO_KEYS: usize = 2 * KEY_BITS;
 
-// The first words of a KATAN's, which are the key's; zeros above them.
-fn first_words(key: [u64; KEY_BITS]) -> [u64; ROUND_KEYS]
-    ensures { Entries (λ i. get_or key i 0) key_length result }
-{
-    let mut first = [0u64; ROUND_KEYS];
-    for i in 0..KEY_BITS {
-        first[i] = key[i];
-    }
-    first
-}
-
 // Words up to `to`, each by the rule of k(i) with its distances s times as long. Where a stream keeps the rule, it keeps the rule with
 // doubled distances too: those are even, so that two words are made at once.
 fn extend(words: &mut [u64; ROUND_KEYS], s: usize, to: usize)
@@ -43,7 +32,8 @@ fn extend(words: &mut [u64; ROUND_KEYS], s: usize, to: usize)
 fn katan_words(key: [u64; KEY_BITS]) -> [u64; ROUND_KEYS]
     ensures { Entries (k_word key) (2 * rounds) result }
 {
-    let mut words = first_words(key);
+    let mut words = [0u64; ROUND_KEYS];
+    words[..KEY_BITS].copy_from_slice(&key);
     extend(&mut words, 1, TWO_KEYS);
     extend(&mut words, 2, ROUND_KEYS);
     words
@@ -55,8 +45,8 @@ fn ktantan_words(key: [u64; KEY_BITS]) -> [u64; ROUND_KEYS]
 {
     let numbers = katan_variants::key_bit_numbers();
     let mut words = [0u64; ROUND_KEYS];
-    for i in 0..ROUND_KEYS {
-        words[i] = key[katan_numbers::index_of(numbers[i])];
+    for (i, number) in numbers.iter().enumerate() {
+        words[i] = key[usize::from(*number)];
     }
     words
 }
