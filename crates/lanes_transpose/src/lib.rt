@@ -15,47 +15,47 @@ const HALF: usize = 2 * QUARTER;
 
 const THREE_QUARTERS: usize = HALF + QUARTER;
 
-// The low row's bits under `mask << shift` swap with the high row's under `mask`.
-fn swapped_low(low: u64, high: u64, shift: usize, mask: u64) -> u64
-    requires { shift < word_bits }
-    ensures { result ≡ swapped_low shift mask low high }
-{
-    low ^ ((((low >> shift) ^ high) & mask) << shift)
+// A stage swaps the low row's bits under `mask << shift` with the high row's under `mask`.
+#[derive(Clone, Copy)]
+struct Stage {
+    shift: usize,
+    mask: u64,
+    ghost within: { shift < word_bits },
 }
 
-fn swapped_high(low: u64, high: u64, shift: usize, mask: u64) -> u64
-    requires { shift < word_bits }
-    ensures { result ≡ swapped_high shift mask low high }
-{
-    high ^ (((low >> shift) ^ high) & mask)
+impl Stage {
+    fn new(shift: usize, mask: u64) -> Stage
+        requires { shift < word_bits }
+        ensures { (result.shift ≡ shift) × (result.mask ≡ mask) }
+    {
+        Stage { shift, mask }
+    }
+
+    // The low row and the high row, swapped.
+    fn swapped(self, low: u64, high: u64) -> (u64, u64)
+        ensures low_row { result.0 ≡ swapped_low self.shift self.mask low high }
+        ensures high_row { result.1 ≡ swapped_high self.shift self.mask low high }
+    {
+        let difference = ((low >> self.shift) ^ high) & self.mask;
+        (low ^ (difference << self.shift), high ^ difference)
+    }
 }
 
 // Two stages. The first swaps rows i and i + HALF, which then stand side by side, and the second does the same with its result: so no
 // stage looks for its pairs, and both are one straight loop that vectorises.
-fn pass(
-    rows: [u64; WORD_BITS],
-    shift: usize,
-    mask: u64,
-    shift2: usize,
-    mask2: u64,
-) -> [u64; WORD_BITS]
-    requires { (shift < word_bits) × (shift2 < word_bits) }
-    ensures { Passed 16 shift mask shift2 mask2 rows result }
+fn pass(rows: [u64; WORD_BITS], first: Stage, second: Stage) -> [u64; WORD_BITS]
+    ensures { Passed 16 first.shift first.mask second.shift second.mask rows result }
 {
     let mut next = [0u64; WORD_BITS];
     for i in 0..QUARTER {
-        let a = rows[i];
-        let b = rows[i + QUARTER];
-        let c = rows[i + HALF];
-        let d = rows[i + THREE_QUARTERS];
-        let a1 = swapped_low(a, c, shift, mask);
-        let c1 = swapped_high(a, c, shift, mask);
-        let b1 = swapped_low(b, d, shift, mask);
-        let d1 = swapped_high(b, d, shift, mask);
-        next[4 * i] = swapped_low(a1, b1, shift2, mask2);
-        next[4 * i + 1] = swapped_high(a1, b1, shift2, mask2);
-        next[4 * i + 2] = swapped_low(c1, d1, shift2, mask2);
-        next[4 * i + 3] = swapped_high(c1, d1, shift2, mask2);
+        let (a, c) = first.swapped(rows[i], rows[i + HALF]);
+        let (b, d) = first.swapped(rows[i + QUARTER], rows[i + THREE_QUARTERS]);
+        let (a, b) = second.swapped(a, b);
+        let (c, d) = second.swapped(c, d);
+        next[4 * i] = a;
+        next[4 * i + 1] = b;
+        next[4 * i + 2] = c;
+        next[4 * i + 3] = d;
     }
     next
 }
@@ -64,7 +64,19 @@ fn pass(
 pub fn transpose(rows: [u64; WORD_BITS]) -> [u64; WORD_BITS]
     ensures { result ≡ transposed rows }
 {
-    let rows = pass(rows, 32, 0x00000000ffffffff, 16, 0x0000ffff0000ffff);
-    let rows = pass(rows, 8, 0x00ff00ff00ff00ff, 4, 0x0f0f0f0f0f0f0f0f);
-    pass(rows, 2, 0x3333333333333333, 1, 0x5555555555555555)
+    let rows = pass(
+        rows,
+        Stage::new(32, 0x00000000ffffffff),
+        Stage::new(16, 0x0000ffff0000ffff),
+    );
+    let rows = pass(
+        rows,
+        Stage::new(8, 0x00ff00ff00ff00ff),
+        Stage::new(4, 0x0f0f0f0f0f0f0f0f),
+    );
+    pass(
+        rows,
+        Stage::new(2, 0x3333333333333333),
+        Stage::new(1, 0x5555555555555555),
+    )
 }

@@ -9,4 +9,3 @@ use Rattle.lanes_keys.proofs.extend.Given as goal
 
 abbrev pub invariant-loop-i : goal.invariant-loop-i
 invariant-loop-i l = (length l.words ≡ 2 * rounds) × ((f : ℕ → ℕ) → Entries f (key_length * l.s) l.initial.words → Keeps l.s (key_length * l.s) l.to f → Entries f l.i l.words)
-
