@@ -14,6 +14,7 @@ use crate::constants::{
 };
 use crate::rounds::{ir_words, run, unrun};
 use katan::{ROUND_KEYS, ROUNDS, RoundPosition, Row, WORD_BITS};
+use katan_variants::{Bits32, Bits48, Bits64, Width};
 
 mod constants;
 mod rounds;
@@ -78,7 +79,7 @@ pub fn encrypted(n: usize, keys: &[u64; ROUND_KEYS], words: &[u64; WORD_BITS]) -
     let irs = ir_words();
     match n {
         32 => {
-            let v = katan_variants::row_32();
+            let v = Bits32::row();
             let mut a = [0u64; FIRST_32];
             let mut b = [0u64; SECOND_32];
             place(v, words, &mut a, &mut b, RoundPosition(0));
@@ -86,7 +87,7 @@ pub fn encrypted(n: usize, keys: &[u64; ROUND_KEYS], words: &[u64; WORD_BITS]) -
             words_at(v, &a, &b, RoundPosition(ROUNDS))
         }
         48 => {
-            let v = katan_variants::row_48();
+            let v = Bits48::row();
             let mut a = [0u64; FIRST_48];
             let mut b = [0u64; SECOND_48];
             place(v, words, &mut a, &mut b, RoundPosition(0));
@@ -94,7 +95,7 @@ pub fn encrypted(n: usize, keys: &[u64; ROUND_KEYS], words: &[u64; WORD_BITS]) -
             words_at(v, &a, &b, RoundPosition(ROUNDS))
         }
         _ => {
-            let v = katan_variants::row_64();
+            let v = Bits64::row();
             let mut a = [0u64; FIRST_64];
             let mut b = [0u64; SECOND_64];
             place(v, words, &mut a, &mut b, RoundPosition(0));
@@ -111,7 +112,7 @@ pub fn decrypted(n: usize, keys: &[u64; ROUND_KEYS], words: &[u64; WORD_BITS]) -
     let irs = ir_words();
     match n {
         32 => {
-            let v = katan_variants::row_32();
+            let v = Bits32::row();
             let mut a = [0u64; FIRST_32];
             let mut b = [0u64; SECOND_32];
             place(v, words, &mut a, &mut b, RoundPosition(ROUNDS));
@@ -119,7 +120,7 @@ pub fn decrypted(n: usize, keys: &[u64; ROUND_KEYS], words: &[u64; WORD_BITS]) -
             words_at(v, &a, &b, RoundPosition(0))
         }
         48 => {
-            let v = katan_variants::row_48();
+            let v = Bits48::row();
             let mut a = [0u64; FIRST_48];
             let mut b = [0u64; SECOND_48];
             place(v, words, &mut a, &mut b, RoundPosition(ROUNDS));
@@ -127,7 +128,7 @@ pub fn decrypted(n: usize, keys: &[u64; ROUND_KEYS], words: &[u64; WORD_BITS]) -
             words_at(v, &a, &b, RoundPosition(0))
         }
         _ => {
-            let v = katan_variants::row_64();
+            let v = Bits64::row();
             let mut a = [0u64; FIRST_64];
             let mut b = [0u64; SECOND_64];
             place(v, words, &mut a, &mut b, RoundPosition(ROUNDS));

@@ -14,40 +14,40 @@ use Rattle.lanes_rounds.proofs.encrypted.Goals as goal
 
 pub place-requires : goal.place-requires
 place-requires c =
-    let e = c.row_32-v.ensures in
+    let e = c.row-v.ensures in
     at_position _ _ e (sound 1) (room_of _ _ e (sound 1) (record { room1 = omega arith; room2 = omega arith })) 0 (omega arith)
 
 pub run-requires : goal.run-requires
-run-requires c = ready _ _ c.row_32-v.ensures (sound 1) c.place.ensures.room 2 127 (omega arith) refl
+run-requires c = ready _ _ c.row-v.ensures (sound 1) c.place.ensures.room 2 127 (omega arith) refl
 
 pub words_at-requires : goal.words_at-requires
-words_at-requires c = at_position _ _ c.row_32-v.ensures (sound 1) c.run.ensures.room rounds (omega arith)
+words_at-requires c = at_position _ _ c.row-v.ensures (sound 1) c.run.ensures.room rounds (omega arith)
 
 pub place-requires-in-48 : goal.place-requires-in-48
 place-requires-in-48 c =
-    let e = c.row_48-v.ensures in
+    let e = c.row-v-in-48.ensures in
     at_position _ _ e (sound 2) (room_of _ _ e (sound 2) (record { room1 = omega arith; room2 = omega arith })) 0 (omega arith)
 
 pub run-requires-in-48 : goal.run-requires-in-48
-run-requires-in-48 c = ready _ _ c.row_48-v.ensures (sound 2) c.place-in-48.ensures.room 1 254 (omega arith) refl
+run-requires-in-48 c = ready _ _ c.row-v-in-48.ensures (sound 2) c.place-in-48.ensures.room 1 254 (omega arith) refl
 
 pub words_at-requires-in-48 : goal.words_at-requires-in-48
-words_at-requires-in-48 c = at_position _ _ c.row_48-v.ensures (sound 2) c.run-in-48.ensures.room rounds (omega arith)
+words_at-requires-in-48 c = at_position _ _ c.row-v-in-48.ensures (sound 2) c.run-in-48.ensures.room rounds (omega arith)
 
 pub place-requires-in_default : goal.place-requires-in_default
 place-requires-in_default c =
-    let e = c.row_64-v.ensures in
+    let e = c.row-v-in_default.ensures in
     at_position _ _ e (sound 3) (room_of _ _ e (sound 3) (record { room1 = omega arith; room2 = omega arith })) 0 (omega arith)
 
 pub run-requires-in_default : goal.run-requires-in_default
-run-requires-in_default c = ready _ _ c.row_64-v.ensures (sound 3) c.place-in_default.ensures.room 2 127 (omega arith) refl
+run-requires-in_default c = ready _ _ c.row-v-in_default.ensures (sound 3) c.place-in_default.ensures.room 2 127 (omega arith) refl
 
 pub words_at-requires-in_default : goal.words_at-requires-in_default
-words_at-requires-in_default c = at_position _ _ c.row_64-v.ensures (sound 3) c.run-in_default.ensures.room rounds (omega arith)
+words_at-requires-in_default c = at_position _ _ c.row-v-in_default.ensures (sound 3) c.run-in_default.ensures.room rounds (omega arith)
 
 pub returns-in-32 : goal.returns-in-32
 returns-in-32 c =
-    let v = c.row_32-v in
+    let v = c.row-v in
     let a = c.args in
     let r = c.words_at in
     let g : (k : ℕ) → Fits w64 (get_or r.result k 0) = λ k. search (rules, r.type_inv) in
@@ -56,7 +56,7 @@ returns-in-32 c =
 
 pub returns-in-48 : goal.returns-in-48
 returns-in-48 c =
-    let v = c.row_48-v in
+    let v = c.row-v-in-48 in
     let a = c.args in
     let r = c.words_at-in-48 in
     let g : (k : ℕ) → Fits w64 (get_or r.result k 0) = λ k. search (rules, r.type_inv) in
@@ -65,7 +65,7 @@ returns-in-48 c =
 
 pub returns-in_default : goal.returns-in_default
 returns-in_default c =
-    let v = c.row_64-v in
+    let v = c.row-v-in_default in
     let a = c.args in
     let r = c.words_at-in_default in
     let g : (k : ℕ) → Fits w64 (get_or r.result k 0) = λ k. search (rules, r.type_inv) in
