@@ -3,9 +3,7 @@
 use Rattle.std.specs.Prelude.{ℕ, ◌+◌, ◌*◌, ◌/◌, ◌||◌, [], ◌∷◌, eqb, ltb}
 use Rattle.katan.specs.Counter.{rounds}
 use Rattle.katan.specs.Variant.{width_of}
-use Rattle.katan.specs.Checks.{number_of, Outcome, value, refused, Check, checked, variant_check}
-use Rattle.katan_rate.specs.declared.RateAnswer.{RateAnswer}
-use Rattle.katan_rate.specs.declared.RateAnswer.TheVariants.{BitsPerSecond, Refused}
+use Rattle.katan.specs.Checks.{Outcome, value, Check, checked, variant_check}
 
 -- the cycles that a block takes: one for loading, and its rounds
 abbrev pub block_cycles : ℕ
@@ -28,9 +26,5 @@ abbrev pub bit_rate : ℕ → ℕ → ℕ
 bit_rate v f = width_of v * f / block_cycles
 
 -- the rate, or the refusal's number
-abbrev pub rate_outcome : RateAnswer → Outcome ℕ
-rate_outcome (BitsPerSecond x) = value x
-rate_outcome (Refused r) = refused (number_of r)
-
 abbrev pub rate_answer : ℕ → ℕ → Outcome ℕ
 rate_answer v f = checked (variant_check v ∷ clock_rate_check f ∷ []) (value (bit_rate v f))
