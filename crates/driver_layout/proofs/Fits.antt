@@ -13,20 +13,20 @@ use Rattle.katan.proofs.Tables.{length-tabulate}
 use Rattle.bench_record.specs.Fields.{record_length, part}
 use Rattle.bench_record.specs.Codec.{record_in}
 use Rattle.bench_record.proofs.Parts.{take-bytes, drop-bytes, part_lt}
-use Rattle.bench.specs.declared.Lane.TheVariants.{Empty, Held}
+use Rattle.std.proofs.Common.{Some, None}
 use Rattle.driver_layout.specs.Layout.{number_bytes, state_place, key_start, registers_start, lane_length, lanes_start, last_start, total_start, record_start, empty_state, loaded_in, lane_in, slots_in, bench_in, link_in}
 use Rattle.driver_layout.specs.ReadBack.{LaneFits, SlotsFit, BenchFits, LinkFits}
 
 -- ---- a lane
 
 module _ (s : List ℕ) (h : AreBytes s) where
-  loaded_fits : LaneFits (Held (loaded_in s))
+  loaded_fits : LaneFits (Some (loaded_in s))
   unfolding loaded_in
   loaded_fits =
       let key : part s key_start key_bytes < 2 ^ 80 = part_lt s h key_start key_bytes in
       (omega arith, omega arith, part_lt s h registers_start word_bytes)
 
-  either_fits : (empty : Bool) → LaneFits (pick empty Empty (Held (loaded_in s)))
+  either_fits : (empty : Bool) → LaneFits (pick empty None (Some (loaded_in s)))
   either_fits true = tt
   either_fits false = loaded_fits
 

@@ -13,9 +13,7 @@ use Rattle.bench_record.specs.Fields.{record_length, part}
 use Rattle.bench_record.specs.Codec.{record_in}
 use Rattle.bench_record.proofs.Parts.{whole_record}
 use Rattle.bench.specs.declared.Loaded.{Loaded}
-use Rattle.bench.specs.declared.Lane.{Lane}
-use Rattle.bench.specs.declared.Lane.TheVariants.{Empty, Held}
-use Rattle.bench.specs.declared.Slot.{Slot}
+use Rattle.std.proofs.Common.{Option, Some, None}
 use Rattle.bench.specs.declared.Bench.{Bench}
 use Rattle.bench.specs.declared.Link.{Link}
 use Rattle.katan.proofs.KeyNumbers.{key_is}
@@ -34,12 +32,12 @@ number_last n x h = ap number_in (take_all n (bytes_of n x) (omega (arith, lengt
 
 -- ---- a lane
 
-length_lane : (l : Lane) (old : List ℕ) → length old ≡ lane_length → length (lane_bytes l old) ≡ lane_length
+length_lane : (l : Option Loaded) (old : List ℕ) → length old ≡ lane_length → length (lane_bytes l old) ≡ lane_length
 unfolding lane_bytes loaded_bytes
-length_lane Empty old e = length-set old 0 0 ∙ e
-length_lane (Held h) old e = simp (length-append, length-bytes)
+length_lane None old e = length-set old 0 0 ∙ e
+length_lane (Some h) old e = simp (length-append, length-bytes)
 
-loaded_back : (h : Loaded) → LaneFits (Held h) → loaded_in (loaded_bytes h) ≡ h
+loaded_back : (h : Loaded) → LaneFits (Some h) → loaded_in (loaded_bytes h) ≡ h
 unfolding loaded_in loaded_bytes
 loaded_back h f =
     let k = key_number h.key in
@@ -49,15 +47,15 @@ loaded_back h f =
     = ap (λ (s : List ℕ). number_in (take word_bytes s)) (drop_at (bytes_of key_bytes k) (bytes_of word_bytes h.registers) key_bytes (length-bytes key_bytes k)) ∙ number_last word_bytes h.registers f.2 in
     rw (key, registers)
 
-loaded-lane : (h : Loaded) → loaded_in (loaded_bytes h) ≡ h → lane_in (loaded_bytes h) ≡ Held h
+loaded-lane : (h : Loaded) → loaded_in (loaded_bytes h) ≡ h → lane_in (loaded_bytes h) ≡ Some h
 unfolding lane_in loaded_bytes
-loaded-lane h e = ap Held e
+loaded-lane h e = ap Some e
 
-lane_back : (l : Lane) (old : List ℕ) → length old ≡ lane_length → LaneFits l → lane_in (lane_bytes l old) ≡ l
+lane_back : (l : Option Loaded) (old : List ℕ) → length old ≡ lane_length → LaneFits l → lane_in (lane_bytes l old) ≡ l
 unfolding lane_in lane_bytes
-lane_back Empty [] e f = absurd (omega arith)
-lane_back Empty (x ∷ old) e f = refl
-lane_back (Held h) old e f = loaded-lane h (loaded_back h f)
+lane_back None [] e f = absurd (omega arith)
+lane_back None (x ∷ old) e f = refl
+lane_back (Some h) old e f = loaded-lane h (loaded_back h f)
 
 -- ---- the lanes
 
@@ -69,21 +67,21 @@ module _ (n : ℕ) (old : List ℕ) (e : length old ≡ lane_length * suc n) whe
   of_others : length (drop lane_length old) ≡ lane_length * n
   of_others = omega (arith, length-drop lane_length old)
 
-slots_back : (ss : List Slot) (old : List ℕ) → length old ≡ lane_length * length ss → SlotsFit ss → slots_in (length ss) (slot_bytes ss old) ≡ ss
+slots_back : (ss : List (Option Loaded)) (old : List ℕ) → length old ≡ lane_length * length ss → SlotsFit ss → slots_in (length ss) (slot_bytes ss old) ≡ ss
 unfolding slots_in slot_bytes
 slots_back [] old e f = refl
 slots_back (s ∷ ss) old e f =
     let n = of_first (length ss) old e in
-    let x = lane_bytes s.lane (take lane_length old) in
+    let x = lane_bytes s (take lane_length old) in
     let rest = slot_bytes ss (drop lane_length old) in
-    let m = length_lane s.lane (take lane_length old) n in
-    rw (take_at x rest lane_length m, drop_at x rest lane_length m, lane_back s.lane (take lane_length old) n f.0, slots_back ss (drop lane_length old) (of_others (length ss) old e) f.1)
+    let m = length_lane s (take lane_length old) n in
+    rw (take_at x rest lane_length m, drop_at x rest lane_length m, lane_back s (take lane_length old) n f.0, slots_back ss (drop lane_length old) (of_others (length ss) old e) f.1)
 
-length_slots : (ss : List Slot) (old : List ℕ) → length old ≡ lane_length * length ss → length (slot_bytes ss old) ≡ lane_length * length ss
+length_slots : (ss : List (Option Loaded)) (old : List ℕ) → length old ≡ lane_length * length ss → length (slot_bytes ss old) ≡ lane_length * length ss
 unfolding slot_bytes
 length_slots [] old e = refl
 length_slots (s ∷ ss) old e =
-    let first = length_lane s.lane (take lane_length old) (of_first (length ss) old e) in
+    let first = length_lane s (take lane_length old) (of_first (length ss) old e) in
     let others = length_slots ss (drop lane_length old) (of_others (length ss) old e) in
     simp length-append (omega arith)
 
@@ -99,7 +97,7 @@ module _ (b : Bench) (old : List ℕ) (f : BenchFits b) (e : length old ≡ benc
 pub bench_read_back : BenchReadBack
 unfolding bench_in bench_bytes
 bench_read_back b old f e =
-    ap (λ (ss : List Slot). bench_with b.variant ss)
+    ap (λ (ss : List (Option Loaded)). bench_with b.variant ss)
     (ap (λ (n : ℕ). slots_in n (slot_bytes b.slots (drop lanes_start old))) (sym f.all_lanes) ∙ slots_back b.slots (drop lanes_start old) (all_bytes b old f e) f.lanes_fit)
 
 -- ---- the link

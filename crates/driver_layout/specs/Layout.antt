@@ -1,15 +1,12 @@
 -- The bench and the link as a driver holds them: their layout in bytes. Numbers are low byte first. A byte past the end counts as 0.
 -- Assumes nothing.
-use Rattle.std.specs.Prelude.{ℕ, zero, suc, ◌+◌, ◌*◌, List, [], ◌∷◌, ◌++◌, eqb, length, get_or, set, take, drop, replicate}
+use Rattle.std.specs.Prelude.{ℕ, zero, suc, ◌+◌, ◌*◌, List, [], ◌∷◌, ◌++◌, Option, Some, None, eqb, length, get_or, set, take, drop, replicate}
 use Rattle.katan.specs.Bit.{pick, bytes_of}
 use Rattle.katan.specs.Key.{key_number, key_of}
 use Rattle.katan.specs.Sizes.{lane_count, word_bytes, key_bytes}
 use Rattle.bench_record.specs.Fields.{record_length, part}
 use Rattle.bench_record.specs.Codec.{record_in}
 use Rattle.bench.specs.declared.Loaded.{Loaded}
-use Rattle.bench.specs.declared.Lane.{Lane}
-use Rattle.bench.specs.declared.Lane.TheVariants.{Empty, Held}
-use Rattle.bench.specs.declared.Slot.{Slot}
 use Rattle.bench.specs.declared.Bench.{Bench}
 use Rattle.bench.specs.declared.Link.{Link}
 
@@ -75,13 +72,13 @@ position_in s = pick (eqb (get_or s state_place 0) loaded_state) (get_or s posit
 unfoldable pub loaded_in : List ℕ → Loaded
 loaded_in s = record { key = key_of (part s key_start key_bytes); position = record { 0 = position_in s }; registers = part s registers_start word_bytes }
 
-unfoldable pub lane_in : List ℕ → Lane
-lane_in s = pick (eqb (get_or s state_place 0) empty_state) Empty (Held (loaded_in s))
+unfoldable pub lane_in : List ℕ → Option Loaded
+lane_in s = pick (eqb (get_or s state_place 0) empty_state) None (Some (loaded_in s))
 
 -- the first n lanes
-unfoldable pub slots_in : ℕ → List ℕ → List Slot
+unfoldable pub slots_in : ℕ → List ℕ → List (Option Loaded)
 slots_in zero s = []
-slots_in (suc n) s = record { lane = lane_in (take lane_length s) } ∷ slots_in n (drop lane_length s)
+slots_in (suc n) s = lane_in (take lane_length s) ∷ slots_in n (drop lane_length s)
 
 unfoldable pub bench_in : List ℕ → Bench
 bench_in s = record { variant = get_or s variant_place 0; slots = slots_in lane_count (drop lanes_start s) }
@@ -99,13 +96,13 @@ unfoldable pub loaded_bytes : Loaded → List ℕ
 loaded_bytes h = loaded_state ∷ h.position.0 ∷ bytes_of key_bytes (key_number h.key) ++ bytes_of word_bytes h.registers
 
 -- over the bytes that were there: an empty lane's are kept, but for its state
-unfoldable pub lane_bytes : Lane → List ℕ → List ℕ
-lane_bytes Empty old = set old state_place empty_state
-lane_bytes (Held h) old = loaded_bytes h
+unfoldable pub lane_bytes : Option Loaded → List ℕ → List ℕ
+lane_bytes None old = set old state_place empty_state
+lane_bytes (Some h) old = loaded_bytes h
 
-unfoldable pub slot_bytes : List Slot → List ℕ → List ℕ
+unfoldable pub slot_bytes : List (Option Loaded) → List ℕ → List ℕ
 slot_bytes [] old = []
-slot_bytes (s ∷ ss) old = lane_bytes s.lane (take lane_length old) ++ slot_bytes ss (drop lane_length old)
+slot_bytes (l ∷ ls) old = lane_bytes l (take lane_length old) ++ slot_bytes ls (drop lane_length old)
 
 unfoldable pub bench_bytes : Bench → List ℕ → List ℕ
 bench_bytes b old = b.variant ∷ slot_bytes b.slots (drop lanes_start old)

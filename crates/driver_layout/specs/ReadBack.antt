@@ -1,23 +1,21 @@
 -- What a driver's memory keeps: a bench or a link written down is read back as it was, so that the calls of a driver are the calls of a list.
 -- Assumes nothing.
-use Rattle.std.specs.Prelude.{ℕ, ◌^◌, ◌<◌, ◌≡◌, List, [], ◌∷◌, length}
+use Rattle.std.specs.Prelude.{ℕ, ◌^◌, ◌<◌, ◌≡◌, List, [], ◌∷◌, Option, Some, None, length}
 use Rattle.katan.specs.Sizes.{lane_count}
 use Rattle.bench_record.specs.Fields.{record_length}
-use Rattle.bench.specs.declared.Lane.{Lane}
-use Rattle.bench.specs.declared.Lane.TheVariants.{Empty, Held}
-use Rattle.bench.specs.declared.Slot.{Slot}
+use Rattle.bench.specs.declared.Loaded.{Loaded}
 use Rattle.bench.specs.declared.Bench.{Bench}
 use Rattle.bench.specs.declared.Link.{Link}
 use Rattle.driver_layout.specs.Layout.{bench_length, bench_in, link_in, bench_bytes, link_bytes}
 
 -- what holds of every bench and link of the code: the numbers fit their types, there are 64 lanes, a record has 40 bytes
-abbrev pub LaneFits : Lane → Type 0
-LaneFits Empty = Unit {0}
-LaneFits (Held h) = (h.key.low < 2 ^ 64) × (h.key.high < 2 ^ 16) × (h.registers < 2 ^ 64)
+abbrev pub LaneFits : Option Loaded → Type 0
+LaneFits None = Unit {0}
+LaneFits (Some h) = (h.key.low < 2 ^ 64) × (h.key.high < 2 ^ 16) × (h.registers < 2 ^ 64)
 
-abbrev pub SlotsFit : List Slot → Type 0
+abbrev pub SlotsFit : List (Option Loaded) → Type 0
 SlotsFit [] = Unit {0}
-SlotsFit (s ∷ ss) = LaneFits s.lane × SlotsFit ss
+SlotsFit (l ∷ ls) = LaneFits l × SlotsFit ls
 
 pub record BenchFits (b : Bench) : Type 0 where
   pub all_lanes : length b.slots ≡ lane_count

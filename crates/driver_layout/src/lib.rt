@@ -6,7 +6,7 @@ ghost use Rattle.std.specs.Prelude.{◌≡◌, [], ◌∷◌, length};
 ghost use Rattle.katan.specs.Lent.{fitted};
 ghost use Rattle.driver_layout.specs.Layout.{key_start, lane_length, bench_length, link_length, loaded_state, position_in, loaded_in, lane_in, bench_in, link_in, read_as, loaded_bytes, lane_bytes, bench_bytes, link_bytes};
 
-use bench::{Bench, Lane, Link, Loaded, Slot};
+use bench::{Bench, Link, Loaded};
 use bench_record::LENGTH;
 use bench_record::bytes::bytes_in;
 use katan::{KEY_BYTES, LANES, RoundPosition, WORD_BYTES};
@@ -42,7 +42,7 @@ const RECORD_AT: usize = TOTAL_AT + NUMBER_BYTES;
 
 pub const LINK_LENGTH: usize = RECORD_AT + LENGTH;
 
-// A lane's state.
+// A lane's state: any byte may stand there, as C hands it in.
 const EMPTY: u8 = 0;
 
 const LOADED: u8 = 1;
@@ -63,23 +63,21 @@ fn position_in(bytes: &[u8]) -> u8
 fn loaded_in(bytes: &[u8]) -> Loaded
     ensures { result ≡ loaded_in bytes.now }
 {
-    let position = position_in(bytes);
-    let key = katan_numbers::key_of(bytes_in(bytes, KEY_AT, KEY_BYTES));
-    let registers = katan_numbers::word_of(bytes_in(bytes, REGISTERS_AT, WORD_BYTES));
     Loaded {
-        key: key,
-        position: RoundPosition(position),
-        registers: registers,
+        key: katan_numbers::key_of(bytes_in(bytes, KEY_AT, KEY_BYTES)),
+        position: RoundPosition(position_in(bytes)),
+        registers: katan_numbers::word_of(bytes_in(bytes, REGISTERS_AT, WORD_BYTES)),
     }
 }
 
-fn lane_in(bytes: &[u8]) -> Lane
+fn lane_in(bytes: &[u8]) -> Option<Loaded>
     ensures { result ≡ lane_in bytes.now }
 {
     if byte_at(bytes, STATE_AT) == EMPTY {
-        return Lane::Empty;
+        None
+    } else {
+        Some(loaded_in(bytes))
     }
-    Lane::Held(loaded_in(bytes))
 }
 
 fn whole_bench(bytes: &[u8]) -> Bench
@@ -87,21 +85,12 @@ fn whole_bench(bytes: &[u8]) -> Bench
     ensures { result ≡ bench_in bytes.now }
 {
     let variant = bytes[VARIANT_AT];
-    let none = Slot { lane: Lane::Empty };
-    let mut slots = [none; LANES];
-    let mut at: usize = LANES_AT;
-    let mut i: usize = 0;
-    while i < LANES {
-        let end = at + LANE_LENGTH;
-        let lane = lane_in(&bytes[at..end]);
-        slots[i] = Slot { lane: lane };
-        at = end;
-        i += 1;
+    let mut slots = [None; LANES];
+    for (i, slot) in slots.iter_mut().enumerate() {
+        let at = LANES_AT + LANE_LENGTH * i;
+        *slot = lane_in(&bytes[at..at + LANE_LENGTH]);
     }
-    Bench {
-        variant: variant,
-        slots: slots,
-    }
+    Bench { variant, slots }
 }
 
 // The length is looked at once: then a lane has its bytes, and the compiler loads words.
@@ -121,11 +110,10 @@ pub fn link_in(bytes: &[u8]) -> Link
 {
     let last = katan_numbers::word_of(bytes_in(bytes, LAST_AT, NUMBER_BYTES)) as u32;
     let total = katan_numbers::word_of(bytes_in(bytes, TOTAL_AT, NUMBER_BYTES)) as u32;
-    let sent = bench_record::record_in(bytes_in(bytes, RECORD_AT, LENGTH));
     Link {
-        last: last,
-        bytes: sent,
-        total: total,
+        last,
+        bytes: bench_record::record_in(bytes_in(bytes, RECORD_AT, LENGTH)),
+        total,
     }
 }
 
@@ -142,24 +130,19 @@ fn put_loaded(h: Loaded, out: &mut [u8])
     requires { length out.old ≡ lane_length }
     ensures { out.new ≡ loaded_bytes h }
 {
-    let key = h.key;
     put_head(h.position.0, &mut out[STATE_AT..KEY_AT]);
-    katan_numbers::put_key(key, &mut out[KEY_AT..REGISTERS_AT]);
+    katan_numbers::put_key(h.key, &mut out[KEY_AT..REGISTERS_AT]);
     katan_numbers::put_number(h.registers, &mut out[REGISTERS_AT..LANE_LENGTH]);
 }
 
 // The other bytes of an empty lane are kept.
-fn put_lane(lane: Lane, out: &mut [u8])
+fn put_lane(lane: Option<Loaded>, out: &mut [u8])
     requires { length out.old ≡ lane_length }
     ensures { out.new ≡ lane_bytes lane out.old }
 {
     match lane {
-        Lane::Empty => {
-            out[STATE_AT] = EMPTY;
-        }
-        Lane::Held(h) => {
-            put_loaded(h, out);
-        }
+        None => out[STATE_AT] = EMPTY,
+        Some(h) => put_loaded(h, out),
     }
 }
 
@@ -167,17 +150,10 @@ fn write_bench(bench: Bench, out: &mut [u8])
     requires { length out.old ≡ bench_length }
     ensures { out.new ≡ bench_bytes bench out.old }
 {
-    let slots = bench.slots;
     out[VARIANT_AT] = bench.variant;
-    let mut at: usize = LANES_AT;
-    let mut i: usize = 0;
-    while i < LANES {
-        let end = at + LANE_LENGTH;
-        let slot = slots[i];
-        let lane = slot.lane;
-        put_lane(lane, &mut out[at..end]);
-        at = end;
-        i += 1;
+    for (i, lane) in bench.slots.iter().enumerate() {
+        let at = LANES_AT + LANE_LENGTH * i;
+        put_lane(*lane, &mut out[at..at + LANE_LENGTH]);
     }
 }
 
@@ -189,24 +165,12 @@ pub fn put_bench(bench: Bench, out: &mut [u8])
     }
 }
 
-fn copy(bytes: &[u8], out: &mut [u8])
-    requires { length out.old ≡ length bytes.now }
-    ensures { out.new ≡ bytes.now }
-{
-    let end = bytes.len();
-    let mut i: usize = 0;
-    while i < end {
-        out[i] = bytes[i];
-        i += 1;
-    }
-}
-
 // A copy of any bytes, into memory of as many.
 pub fn put_copy(bytes: &[u8], out: &mut [u8])
     ensures { out.new ≡ fitted (length bytes.now) bytes.now out.old }
 {
     if out.len() == bytes.len() {
-        copy(bytes, out);
+        out.copy_from_slice(bytes);
     }
 }
 
@@ -214,10 +178,9 @@ fn write_link(link: Link, out: &mut [u8])
     requires { length out.old ≡ link_length }
     ensures { out.new ≡ link_bytes link }
 {
-    let sent = link.bytes;
-    katan_numbers::put_number(link.last as u64, &mut out[LAST_AT..TOTAL_AT]);
-    katan_numbers::put_number(link.total as u64, &mut out[TOTAL_AT..RECORD_AT]);
-    copy(&sent, &mut out[RECORD_AT..LINK_LENGTH]);
+    katan_numbers::put_number(u64::from(link.last), &mut out[LAST_AT..TOTAL_AT]);
+    katan_numbers::put_number(u64::from(link.total), &mut out[TOTAL_AT..RECORD_AT]);
+    out[RECORD_AT..LINK_LENGTH].copy_from_slice(&link.bytes);
 }
 
 pub fn put_link(link: Link, out: &mut [u8])

@@ -22,4 +22,4 @@ pub returns : goal.returns
 unfolding link_in
 returns c =
     let s = c.args.bytes.now in
-    rw (c.word_of-last.ensures ∙ part_of word_bytes last_start number_bytes s c.bytes_in.ensures (omega arith), c.word_of-total.ensures ∙ part_of word_bytes total_start number_bytes s c.bytes_in-2.ensures (omega arith), c.record_in-sent.ensures ∙ ap record_in c.bytes_in-3.ensures)
+    rw (c.word_of-last.ensures ∙ part_of word_bytes last_start number_bytes s c.bytes_in.ensures (omega arith), c.word_of-total.ensures ∙ part_of word_bytes total_start number_bytes s c.bytes_in-2.ensures (omega arith), c.record_in.ensures ∙ ap record_in c.bytes_in-3.ensures)

@@ -10,4 +10,4 @@ pub returns : goal.returns
 unfolding loaded_in
 returns c =
     let s = c.args.bytes.now in
-    rw (c.key_of-key.ensures ∙ ap key_of (part_of key_bytes key_start key_bytes s c.bytes_in.ensures (omega arith)), c.word_of-registers.ensures ∙ part_of word_bytes registers_start word_bytes s c.bytes_in-2.ensures (omega arith), c.position_in-position.ensures)
+    rw (c.key_of.ensures ∙ ap key_of (part_of key_bytes key_start key_bytes s c.bytes_in.ensures (omega arith)), c.word_of.ensures ∙ part_of word_bytes registers_start word_bytes s c.bytes_in-2.ensures (omega arith), c.position_in.ensures)

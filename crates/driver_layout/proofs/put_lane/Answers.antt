@@ -1,12 +1,11 @@
-use mathlib.Core.Path.{refl}
+use Rattle.std.proofs.Common.{refl}
 use Rattle.driver_layout.specs.Layout.{lane_bytes}
 use Rattle.driver_layout.proofs.put_lane.Goals as goal
 
-pub returns-in-Empty : goal.returns-in-Empty
+pub returns-in-None : goal.returns-in-None
 unfolding lane_bytes
-returns-in-Empty c = rw c.in-Empty.is refl
+returns-in-None c = rw c.in-None.is refl
 
-pub returns-in-Held : goal.returns-in-Held
+pub returns-in-Some : goal.returns-in-Some
 unfolding lane_bytes
-returns-in-Held c =
-    rw c.in-Held.is c.put_loaded.ensures
+returns-in-Some c = rw c.in-Some.is c.put_loaded.ensures
