@@ -3,31 +3,36 @@
 
 ghost use Rattle.std.specs.Prelude.{◌≡◌, ◌≤◌};
 ghost use Rattle.katan.specs.Bit.{number_in};
+ghost use Rattle.katan.specs.Checks.{outcome};
 ghost use Rattle.katan.specs.Counter.{rounds};
 ghost use Rattle.katan.specs.Machine.{registers_at};
-ghost use Rattle.katan_registers.specs.Answers.{block_outcome};
 ghost use Rattle.katan_cipher.specs.Answers.{block_answer, encrypt_answer, decrypt_answer};
 
 use katan::{Refusal, RoundPosition};
-use katan_registers::Answer;
 
 // A block from one position to another, with the key in bytes.
-fn block_at(variant: u8, key: &[u8], from: RoundPosition, to: RoundPosition, x: u64) -> Answer
+fn block_at(
+    variant: u8,
+    key: &[u8],
+    from: RoundPosition,
+    to: RoundPosition,
+    x: u64,
+) -> Result<u64, Refusal>
     requires { (from.0 ≤ rounds) × (to.0 ≤ rounds) }
-    ensures { block_outcome result ≡ block_answer variant key.now x (registers_at variant (number_in key.now) from.0 x to.0) }
+    ensures { outcome result ≡ block_answer variant key.now x (registers_at variant (number_in key.now) from.0 x to.0) }
 {
     if katan_variants::bad_variant(variant) {
-        return Answer::Refused(Refusal::BadVariant);
+        return Err(Refusal::BadVariant);
     }
     if key.len() != katan::KEY_BYTES {
-        return Answer::Refused(Refusal::BadLength);
+        return Err(Refusal::BadLength);
     }
     katan_registers::registers_at(variant, katan_numbers::key_of(key), from, to, x)
 }
 
 // Encryption: a load at 0 read at 254.
-pub fn encrypt(variant: u8, key: &[u8], block: u64) -> Answer
-    ensures { block_outcome result ≡ encrypt_answer variant key.now block }
+pub fn encrypt(variant: u8, key: &[u8], block: u64) -> Result<u64, Refusal>
+    ensures { outcome result ≡ encrypt_answer variant key.now block }
 {
     let start = RoundPosition(0);
     let end = RoundPosition(katan::ROUNDS);
@@ -35,8 +40,8 @@ pub fn encrypt(variant: u8, key: &[u8], block: u64) -> Answer
 }
 
 // Decryption: the reverse.
-pub fn decrypt(variant: u8, key: &[u8], block: u64) -> Answer
-    ensures { block_outcome result ≡ decrypt_answer variant key.now block }
+pub fn decrypt(variant: u8, key: &[u8], block: u64) -> Result<u64, Refusal>
+    ensures { outcome result ≡ decrypt_answer variant key.now block }
 {
     let start = RoundPosition(0);
     let end = RoundPosition(katan::ROUNDS);

@@ -2,14 +2,7 @@
 -- Assumes nothing.
 use Rattle.std.specs.Prelude.{ℕ, [], ◌∷◌}
 use Rattle.katan.specs.Machine.{registers_at}
-use Rattle.katan.specs.Checks.{number_of, Outcome, value, refused, checked, variant_check, position_check, block_check}
-use Rattle.katan_registers.specs.declared.Answer.{Answer}
-use Rattle.katan_registers.specs.declared.Answer.TheVariants.{Block, Refused}
-
--- the block, or the refusal's number
-abbrev pub block_outcome : Answer → Outcome ℕ
-block_outcome (Block x) = value x
-block_outcome (Refused r) = refused (number_of r)
+use Rattle.katan.specs.Checks.{Outcome, value, checked, variant_check, position_check, block_check}
 
 -- from position q to position p
 abbrev pub registers_answer : ℕ → ℕ → ℕ → ℕ → ℕ → Outcome ℕ

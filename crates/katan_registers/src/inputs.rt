@@ -9,18 +9,12 @@ ghost use Rattle.katan_registers.specs.inner.Tables.{input_from, table_input, Na
 use katan::RoundInput;
 use katan_keys::Window;
 
-fn wide(x: u8) -> u64
-    ensures { (result ≡ x) × (result < 2 ^ 8) }
-{
-    x as u64
-}
-
 // IR from the round's T, and ka and kb, which have these places in the source.
 fn input_from(counter: u8, source: Window, ka: usize, kb: usize) -> RoundInput
     ensures { result ≡ input_from counter (window_number source) ka kb }
 {
     RoundInput {
-        ir: (wide(counter) >> 7) % 2,
+        ir: (u64::from(counter) >> 7) % 2,
         ka: katan_keys::bit_at(source, ka),
         kb: katan_keys::bit_at(source, kb),
     }
@@ -40,8 +34,8 @@ pub fn input_of(
     if katan_variants::is_katan(variant) {
         return input_from(counters[r], source, 0, 1);
     }
-    let ka = katan_numbers::index_of(numbers[2 * r]);
-    let kb = katan_numbers::index_of(numbers[2 * r + 1]);
+    let ka = usize::from(numbers[2 * r]);
+    let kb = usize::from(numbers[2 * r + 1]);
     input_from(counters[r], source, ka, kb)
 }
 
@@ -65,7 +59,7 @@ fn ir_3(c: usize, counters: &[u8; katan::ROUND_COUNT], r: usize) -> u64
     requires { (c ≤ 3) × (r < rounds) }
     ensures { result ≡ beside c (λ j. bit (get_or counters.now r 0) (7 - j)) 3 * (2 ^ c - 1) }
 {
-    let t = wide(counters[r]);
+    let t = u64::from(counters[r]);
     three(
         c,
         katan_numbers::bit_of(t, 7),
@@ -78,7 +72,7 @@ fn ir_4(counters: &[u8; katan::ROUND_COUNT], r: usize) -> u64
     requires { r < rounds }
     ensures { result ≡ beside 1 (λ j. bit (get_or counters.now r 0) (7 - j)) 4 * (2 ^ 1 - 1) }
 {
-    wide(counters[r]) >> 4
+    u64::from(counters[r]) >> 4
 }
 
 // KATAN: every second bit of the window, from bit i on.
@@ -111,7 +105,7 @@ fn picked(numbers: &[u8; katan::ROUND_KEYS], bits: &[u8; katan::KEY_BITS], i: us
     requires { (i < 2 * rounds) × Named numbers.now }
     ensures { (result ≡ get_or bits.now (get_or numbers.now i 0) 0) × (result < 2 ^ 8) }
 {
-    wide(bits[katan_numbers::index_of(numbers[i])])
+    u64::from(bits[usize::from(numbers[i])])
 }
 
 fn picked_3(

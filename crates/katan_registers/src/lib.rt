@@ -5,23 +5,17 @@ ghost use Rattle.std.specs.Prelude.{◌≡◌, ◌<◌, ◌≤◌, ◌^◌};
 ghost use Rattle.katan.specs.Counter.{rounds};
 ghost use Rattle.katan.specs.Key.{key_number};
 ghost use Rattle.katan.specs.Variant.{row_of, width_of};
+ghost use Rattle.katan.specs.Checks.{outcome};
 ghost use Rattle.katan.specs.Machine.{registers_at};
-ghost use Rattle.katan_registers.specs.Answers.{block_outcome, registers_answer};
+ghost use Rattle.katan_registers.specs.Answers.{registers_answer};
 ghost use Rattle.katan_registers.specs.Inputs.{round_input};
 
 use crate::inputs::input_of;
 use crate::rounds::by_tables;
-use katan::{Key, Refusal, RoundInput, RoundPosition, Row, RowAnswer};
+use katan::{Key, Refusal, RoundInput, RoundPosition, Row};
 
 mod inputs;
 mod rounds;
-
-// What a call answers: a block, or the first fault found.
-#[derive(Clone, Copy)]
-pub enum Answer {
-    Block(u64),
-    Refused(Refusal),
-}
 
 // The registers at one position of x loaded at another.
 fn registers_between(
@@ -47,31 +41,24 @@ pub fn registers_at(
     from: RoundPosition,
     to: RoundPosition,
     registers: u64,
-) -> Answer
-    ensures { block_outcome result ≡ registers_answer variant (key_number key) from.0 to.0 registers }
+) -> Result<u64, Refusal>
+    ensures { outcome result ≡ registers_answer variant (key_number key) from.0 to.0 registers }
 {
-    match katan_variants::row_of(variant) {
-        RowAnswer::Found(row) => {
-            if katan::ROUNDS < from.0 {
-                return Answer::Refused(Refusal::BadPosition);
-            }
-            if katan::ROUNDS < to.0 {
-                return Answer::Refused(Refusal::BadPosition);
-            }
-            if katan_numbers::too_wide(row.n, registers) {
-                return Answer::Refused(Refusal::BadBlock);
-            }
-            Answer::Block(registers_between(variant, row, key, from, to, registers))
-        }
-        RowAnswer::Refused(r) => Answer::Refused(r),
+    let row = katan_variants::row_of(variant)?;
+    if katan::ROUNDS < from.0 || katan::ROUNDS < to.0 {
+        return Err(Refusal::BadPosition);
     }
+    if katan_numbers::too_wide(row.n, registers) {
+        return Err(Refusal::BadBlock);
+    }
+    Ok(registers_between(variant, row, key, from, to, registers))
 }
 
 // IR, ka and kb of the round that starts at a position; zeros at 254 and above, where none does.
 pub fn round_input(variant: u8, key: Key, at: RoundPosition) -> RoundInput
     ensures { result ≡ round_input variant (key_number key) at.0 }
 {
-    let r = at.0 as usize;
+    let r = usize::from(at.0);
     if katan::ROUND_COUNT <= r {
         return RoundInput {
             ir: 0,

@@ -11,6 +11,7 @@ ghost use Rattle.katan_registers.specs.inner.Tables.{Tables, KeyBits, Moves, Mov
 use crate::inputs::{input_of, inputs_3, inputs_4};
 use katan::{Key, Registers, RoundPosition, Row};
 use katan_keys::Window;
+use katan_variants::{Bits32, Bits48, Bits64};
 
 // The registers at a position, and its source: what the rounds find their key bits in, a KATAN's window or a KTANTAN's key.
 #[derive(Clone, Copy)]
@@ -74,21 +75,24 @@ fn stride_of(
     let s = h.registers;
     match variant {
         2 | 5 => Running {
-            registers: katan_clocks::rounds_48(
+            registers: katan_clocks::stride_at::<Bits48>(
                 inputs_3(variant, 2, counters, numbers, bits, r, w),
                 s,
             ),
             source: katan_keys::source_ahead(variant, w),
         },
         3 | 6 => Running {
-            registers: katan_clocks::rounds_64(
+            registers: katan_clocks::stride_at::<Bits64>(
                 inputs_3(variant, 3, counters, numbers, bits, r, w),
                 s,
             ),
             source: katan_keys::source_ahead(variant, w),
         },
         _ => Running {
-            registers: katan_clocks::rounds_32(inputs_4(variant, counters, numbers, bits, r, w), s),
+            registers: katan_clocks::stride_at::<Bits32>(
+                inputs_4(variant, counters, numbers, bits, r, w),
+                s,
+            ),
             source: katan_keys::source_ahead(variant, w),
         },
     }
@@ -111,7 +115,7 @@ fn unstride_of(
         2 | 5 => {
             let w = katan_keys::source_behind(variant, h.source);
             Running {
-                registers: katan_clocks::unrounds_48(
+                registers: katan_clocks::unstride_at::<Bits48>(
                     inputs_3(variant, 2, counters, numbers, bits, r, w),
                     s,
                 ),
@@ -121,7 +125,7 @@ fn unstride_of(
         3 | 6 => {
             let w = katan_keys::source_behind(variant, h.source);
             Running {
-                registers: katan_clocks::unrounds_64(
+                registers: katan_clocks::unstride_at::<Bits64>(
                     inputs_3(variant, 3, counters, numbers, bits, r, w),
                     s,
                 ),
@@ -131,7 +135,7 @@ fn unstride_of(
         _ => {
             let w = katan_keys::source_behind(variant, h.source);
             Running {
-                registers: katan_clocks::unrounds_32(
+                registers: katan_clocks::unstride_at::<Bits32>(
                     inputs_4(variant, counters, numbers, bits, r, w),
                     s,
                 ),

@@ -1,5 +1,6 @@
-use mathlib.Core.Path.{◌≡◌, ◌∙◌}
-use Prim.Native.Nat.{◌<◌}
+use mathlib.Core.Path.{◌≡◌, ap, ◌∙◌}
+use Prim.Native.Nat.{ℕ, ◌<◌, ◌≤◌}
+use native.Mathlib.Omega.{arith}
 use borrow.Author.Tests.{lt-ltb, le-ltb}
 use Rattle.katan.specs.Counter.{rounds}
 use Rattle.katan.specs.Key.{key_number}
@@ -9,7 +10,9 @@ use Rattle.katan_registers.proofs.Laws.{table-input}
 use Rattle.katan_registers.proofs.round_input.Goals as goal
 
 pub returns-then-r-ge-ROUND_COUNT : goal.returns-then-r-ge-ROUND_COUNT
-returns-then-r-ge-ROUND_COUNT c = rw (le-ltb c.args.at.0 rounds c.if-r-ge-ROUND_COUNT.true)
+returns-then-r-ge-ROUND_COUNT c =
+    let late : rounds ≤ c.args.at.0 = omega (arith, c.from-r.ensures) in
+    rw (le-ltb c.args.at.0 rounds late)
 
 pub returns : goal.returns
 returns c =
@@ -17,9 +20,9 @@ returns c =
     let v = a.variant in
     let key = key_number a.key in
     let r = a.at.0 in
-    let early : r < rounds = c.if-r-ge-ROUND_COUNT.false in
+    let early : r < rounds = omega (arith, c.from-r.ensures) in
     let ts = c.counters-counters.result in
     let ns = c.key_bit_numbers-numbers.result in
     let w = window_number c.source_at-source.result in
-    let here : c.input_of.result ≡ table_input v ts ns r w = c.input_of.ensures in
+    let here : c.input_of.result ≡ table_input v ts ns r w = c.input_of.ensures ∙ ap (λ (i : ℕ). table_input v ts ns i w) c.from-r.ensures in
     rw (lt-ltb r rounds early) (here ∙ table-input ts ns (c.counters-counters.ensures, c.key_bit_numbers-numbers.ensures) v key r w early c.source_at-source.ensures)

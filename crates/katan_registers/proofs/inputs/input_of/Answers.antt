@@ -19,4 +19,4 @@ returns c =
     let kind : is_katan a.variant ≡ false = sym c.is_katan.ensures ∙ c.if-is_katan.false in
     rw kind
     (c.input_from-2.ensures
-    ∙ ap₂ (input_from (get_or a.counters.now a.r 0) (window_number a.source)) c.index_of-ka.ensures c.index_of-kb.ensures)
+    ∙ ap₂ (input_from (get_or a.counters.now a.r 0) (window_number a.source)) c.from-ka.ensures c.from-kb.ensures)

@@ -8,5 +8,5 @@ use Rattle.katan_registers.proofs.inputs.ir_3.Goals as goal
 pub returns : goal.returns
 returns c =
     let a = c.args in
-    let t = c.wide-t.ensures.0 in
+    let t = c.from-t.ensures in
     c.three.ensures ∙ three_beside a.c (λ j. bit (get_or a.counters.now a.r 0) (7 - j)) (c.bit_of.ensures ∙ ap (λ (t : ℕ). bit t 7) t) (c.bit_of-2.ensures ∙ ap (λ (t : ℕ). bit t 6) t) (c.bit_of-3.ensures ∙ ap (λ (t : ℕ). bit t 5) t)

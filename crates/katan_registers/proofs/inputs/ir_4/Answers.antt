@@ -1,5 +1,4 @@
-use mathlib.Core.Path.{subst}
-use Prim.Native.Nat.{ℕ, ◌<◌, ◌^◌}
+use borrow.Author.Rules.{rules}
 use lib.ListN.{get_or}
 use Rattle.katan_registers.proofs.Laws.{four_irs}
 use Rattle.katan_registers.proofs.inputs.ir_4.Goals as goal
@@ -7,4 +6,4 @@ use Rattle.katan_registers.proofs.inputs.ir_4.Goals as goal
 pub returns : goal.returns
 returns c =
     let a = c.args in
-    rw c.wide.ensures.0 (four_irs (get_or a.counters.now a.r 0) (subst (λ (x : ℕ). x < 2 ^ 8) c.wide.ensures.0 c.wide.ensures.1))
+    rw c.from.ensures (four_irs (get_or a.counters.now a.r 0) (search rules))

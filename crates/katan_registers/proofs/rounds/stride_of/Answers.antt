@@ -28,19 +28,19 @@ pub returns-in-2 : goal.returns-in-2
 returns-in-2 c =
     λ key picks.
     let a = c.args in
-    stride_moves a.variant a.counters.now a.numbers.now c.requires.1 a.r a.h (record { registers = c.rounds_48.result; source = c.source_ahead.result })
-    a.bits.now c.requires.0 row48 (is_row48 _ c.in-2.is) _ key picks c.inputs_3.ensures c.rounds_48.ensures c.source_ahead.ensures
+    stride_moves a.variant a.counters.now a.numbers.now c.requires.1 a.r a.h (record { registers = c.stride_at.result; source = c.source_ahead.result })
+    a.bits.now c.requires.0 row48 (is_row48 _ c.in-2.is) _ key picks c.inputs_3.ensures c.stride_at.ensures c.source_ahead.ensures
 
 pub returns-in-3 : goal.returns-in-3
 returns-in-3 c =
     λ key picks.
     let a = c.args in
-    stride_moves a.variant a.counters.now a.numbers.now c.requires.1 a.r a.h (record { registers = c.rounds_64.result; source = c.source_ahead-in-3.result })
-    a.bits.now c.requires.0 row64 (is_row64 _ c.in-3.is) _ key picks c.inputs_3-in-3.ensures c.rounds_64.ensures c.source_ahead-in-3.ensures
+    stride_moves a.variant a.counters.now a.numbers.now c.requires.1 a.r a.h (record { registers = c.stride_at-in-3.result; source = c.source_ahead-in-3.result })
+    a.bits.now c.requires.0 row64 (is_row64 _ c.in-3.is) _ key picks c.inputs_3-in-3.ensures c.stride_at-in-3.ensures c.source_ahead-in-3.ensures
 
 pub returns-in_default : goal.returns-in_default
 returns-in_default c =
     λ key picks.
     let a = c.args in
-    stride_moves a.variant a.counters.now a.numbers.now c.requires.1 a.r a.h (record { registers = c.rounds_32.result; source = c.source_ahead-in_default.result })
-    a.bits.now c.requires.0 row32 (is_row32 _ c.in_default.in_default-own.rest.0.1 c.in_default.in_default-own.rest.1) _ key picks c.inputs_4.ensures c.rounds_32.ensures c.source_ahead-in_default.ensures
+    stride_moves a.variant a.counters.now a.numbers.now c.requires.1 a.r a.h (record { registers = c.stride_at-in_default.result; source = c.source_ahead-in_default.result })
+    a.bits.now c.requires.0 row32 (is_row32 _ c.in_default.in_default-own.rest.0.1 c.in_default.in_default-own.rest.1) _ key picks c.inputs_4.ensures c.stride_at-in_default.ensures c.source_ahead-in_default.ensures
