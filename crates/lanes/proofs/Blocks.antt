@@ -126,8 +126,7 @@ first_rows f n rows h e =
     let l = length-take-le n rows h in
     full f n (take n rows) l (λ i q. get_or-take n rows i 0 q ∙ e i q)
 
-pub first_results : (d : Direction) (v : ℕ) (keys blocks rows : List ℕ) (n : ℕ) → n ≡ length blocks → n ≤ length rows
-    → Entries (λ i. one_block d v (block_key keys i) (get_or blocks i 0)) (length blocks) rows → take n rows ≡ results d v keys blocks
+pub first_results : (d : Direction) (v : ℕ) (keys blocks rows : List ℕ) → length blocks ≤ length rows
+    → Entries (λ i. one_block d v (block_key keys i) (get_or blocks i 0)) (length blocks) rows → take (length blocks) rows ≡ results d v keys blocks
 unfolding results
-first_results d v keys blocks rows n e h f =
-    ap (λ (m : ℕ). take m rows) e ∙ first_rows (λ i. one_block d v (block_key keys i) (get_or blocks i 0)) (length blocks) rows (omega arith) f
+first_results d v keys blocks rows h f = first_rows (λ i. one_block d v (block_key keys i) (get_or blocks i 0)) (length blocks) rows h f

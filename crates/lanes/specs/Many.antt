@@ -4,12 +4,10 @@ use Rattle.std.specs.Prelude.{ℕ, ◌*◌, Bool, true, false, not, List, [], �
 use Rattle.katan.specs.Bit.{pick, tabulate, number_in}
 use Rattle.katan.specs.Sizes.{lane_count, key_bytes}
 use Rattle.katan.specs.Machine.{encryption, decryption}
-use Rattle.katan.specs.Checks.{number_of, Outcome, value, refused, Check, checked, variant_check, block_check}
+use Rattle.katan.specs.Checks.{Outcome, value, Check, checked, variant_check, block_check}
 use Rattle.katan.specs.Lent.{lent_after}
 use Rattle.lanes.specs.declared.Direction.{Direction}
 use Rattle.lanes.specs.declared.Direction.TheVariants.{Encrypt, Decrypt}
-use Rattle.lanes.specs.declared.Answer.{Answer}
-use Rattle.lanes.specs.declared.Answer.TheVariants.{Done, Refused}
 
 -- block i takes key bytes 10 i to 10 i + 9
 abbrev pub block_key : List ℕ → ℕ → ℕ
@@ -48,11 +46,6 @@ blocks_check v blocks = record { number = 7; fault = any (λ x. (block_check v x
 
 abbrev pub many_checks : ℕ → (keys blocks out : List ℕ) → List Check
 many_checks v keys blocks out = variant_check v ∷ lengths_check keys blocks out ∷ blocks_check v blocks ∷ []
-
--- done, or the refusal's number
-abbrev pub many_outcome : Answer → Outcome (Unit {0})
-many_outcome Done = value tt
-many_outcome (Refused r) = refused (number_of r)
 
 abbrev pub many_answer : ℕ → (keys blocks out : List ℕ) → Outcome (Unit {0})
 many_answer v keys blocks out = checked (many_checks v keys blocks out) (value tt)

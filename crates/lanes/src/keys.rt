@@ -37,13 +37,6 @@ fn low_rows(keys: &[u8], n: usize) -> [u64; WORD_BITS]
     rows
 }
 
-// The high bits of a key, as a word.
-fn wide(x: u16) -> u64
-    ensures { result ≡ x }
-{
-    x as u64
-}
-
 // The blocks as rows, with bits 64 to 79 of each key in bits 48 to 63: so those need no matrix of their own beside blocks of up to 48 bits.
 pub fn with_high(blocks: &[u64], keys: &[u8], n: usize) -> [u64; WORD_BITS]
     requires { (n ≤ word_bits) × (n ≤ length blocks.now) × (key_bytes * n ≤ length keys.now) × ((i : ℕ) → i < n → get_or blocks.now i 0 < 2 ^ high_place) }
@@ -51,30 +44,18 @@ pub fn with_high(blocks: &[u64], keys: &[u8], n: usize) -> [u64; WORD_BITS]
 {
     let mut rows = [0u64; WORD_BITS];
     for i in 0..n {
-        rows[i] = wide(block_key(keys, i).high) * HIGH_UNIT + blocks[i];
+        rows[i] = u64::from(block_key(keys, i).high) * HIGH_UNIT + blocks[i];
     }
     rows
-}
-
-// The words of the keys' low words; zeros above them.
-fn low_words(low: &[u64; WORD_BITS]) -> [u64; KEY_BITS]
-    ensures { Entries (λ i. get_or low.now i 0) word_bits result }
-{
-    let mut first = [0u64; KEY_BITS];
-    for i in 0..WORD_BITS {
-        first[i] = low[i];
-    }
-    first
 }
 
 // The words of the whole keys.
 fn joined(low: &[u64; WORD_BITS], high: &[u64; WORD_BITS]) -> [u64; KEY_BITS]
     ensures { Entries (key_word low.now high.now) key_length result }
 {
-    let mut words = low_words(low);
-    for i in WORD_BITS..KEY_BITS {
-        words[i] = high[i - HIGH_BITS];
-    }
+    let mut words = [0u64; KEY_BITS];
+    words[..WORD_BITS].copy_from_slice(low);
+    words[WORD_BITS..].copy_from_slice(&high[HIGH_PLACE..]);
     words
 }
 

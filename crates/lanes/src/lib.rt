@@ -1,16 +1,19 @@
 // Many blocks at once, each with its own key. The work is bit-sliced: bit j of each word belongs to lane j, which holds block j.
 #![tactic(auto)]
 
-ghost use Rattle.std.specs.Prelude.{◌≡◌, ℕ, ◌*◌, ◌^◌, ◌<◌, ◌≤◌, leb, get_or, length, take};
+ghost use Rattle.std.specs.Prelude.{◌≡◌, ℕ, ◌*◌, ◌^◌, ◌<◌, ◌≤◌, leb, get_or, length};
+ghost use Rattle.std.specs.List.{fold};
+ghost use Rattle.katan.specs.Bit.{or};
+ghost use Rattle.katan.specs.Checks.{outcome};
 ghost use Rattle.katan.specs.Variant.{row_of, width_of};
 ghost use Rattle.katan.specs.Sizes.{word_bits, key_bytes};
 ghost use Rattle.katan.specs.inner.Within.{Entries};
 ghost use Rattle.lanes_rounds.specs.Words.{lane_block};
-ghost use Rattle.lanes.specs.Many.{block_key, one_block, any, many_outcome, many_answer, many_of};
+ghost use Rattle.lanes.specs.Many.{block_key, one_block, any, many_answer, many_of};
 ghost use Rattle.lanes.specs.inner.Words.{HighLanes, all_rounds};
 
 use crate::keys::{HIGH_PLACE, key_words, with_high};
-use katan::{KEY_BYTES, LANES, ROUND_KEYS, Refusal, RowAnswer, WORD_BITS};
+use katan::{KEY_BYTES, LANES, ROUND_KEYS, Refusal, WORD_BITS};
 
 mod keys;
 
@@ -20,22 +23,18 @@ pub enum Direction {
     Decrypt,
 }
 
-// What a call answers: that the output is written, or the first fault found.
-#[derive(Clone, Copy)]
-pub enum Answer {
-    Done,
-    Refused(Refusal),
+// All blocks in one word.
+fn in_one_word(blocks: &[u64]) -> u64
+    ensures { result ≡ fold or 0 blocks.now }
+{
+    blocks.iter().fold(0, |all, block| all | *block)
 }
 
 // Check 7: some block is 2^n or more. All of them in one word are, if one is.
 fn any_wide(n: usize, blocks: &[u64]) -> bool
     ensures { result ≡ any (leb (2 ^ n)) blocks.now }
 {
-    let mut all = 0u64;
-    for i in 0..blocks.len() {
-        all = all | blocks[i];
-    }
-    katan_numbers::too_wide(n, all)
+    katan_numbers::too_wide(n, in_one_word(blocks))
 }
 
 // The blocks as the rows of a matrix. Where they are fewer than the rows, the other rows are zeros.
@@ -44,9 +43,7 @@ fn rows_of(blocks: &[u64]) -> [u64; WORD_BITS]
     ensures { Entries (λ i. get_or blocks.now i 0) (length blocks.now) result }
 {
     let mut rows = [0u64; WORD_BITS];
-    for i in 0..blocks.len() {
-        rows[i] = blocks[i];
-    }
+    rows[..blocks.len()].copy_from_slice(blocks);
     rows
 }
 
@@ -106,13 +103,6 @@ fn result_rows(
     }
 }
 
-fn write(rows: [u64; WORD_BITS], out: &mut [u64])
-    requires { length out.old ≤ word_bits }
-    ensures { out.new ≡ take (length out.old) rows }
-{
-    katan_numbers::put_words(&rows[0..out.len()], out);
-}
-
 // Encrypts or decrypts 1 to 64 blocks of one variant, block i with the key in bytes 10i to 10i + 9.
 pub fn many(
     direction: Direction,
@@ -120,31 +110,19 @@ pub fn many(
     keys: &[u8],
     blocks: &[u64],
     out: &mut [u64],
-) -> Answer
-    ensures result_value { many_outcome result ≡ many_answer variant keys.now blocks.now out.old }
+) -> Result<(), Refusal>
+    ensures result_value { outcome result ≡ many_answer variant keys.now blocks.now out.old }
     ensures out_after { out.new ≡ many_of direction variant keys.now blocks.now out.old }
 {
-    match katan_variants::row_of(variant) {
-        RowAnswer::Found(row) => {
-            let n = blocks.len();
-            if n == 0 {
-                return Answer::Refused(Refusal::BadLength);
-            }
-            if LANES < n {
-                return Answer::Refused(Refusal::BadLength);
-            }
-            if keys.len() != KEY_BYTES * n {
-                return Answer::Refused(Refusal::BadLength);
-            }
-            if out.len() != n {
-                return Answer::Refused(Refusal::BadLength);
-            }
-            if any_wide(row.n, blocks) {
-                return Answer::Refused(Refusal::BadBlock);
-            }
-            write(result_rows(direction, variant, row.n, keys, blocks), out);
-            Answer::Done
-        }
-        RowAnswer::Refused(r) => Answer::Refused(r),
+    let row = katan_variants::row_of(variant)?;
+    let n = blocks.len();
+    if n == 0 || LANES < n || keys.len() != KEY_BYTES * n || out.len() != n {
+        return Err(Refusal::BadLength);
     }
+    if any_wide(row.n, blocks) {
+        return Err(Refusal::BadBlock);
+    }
+    let rows = result_rows(direction, variant, row.n, keys, blocks);
+    out.copy_from_slice(&rows[..n]);
+    Ok(())
 }

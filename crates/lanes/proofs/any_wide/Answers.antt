@@ -1,17 +1,14 @@
-use mathlib.Core.List.{List, ◌∷◌}
+use mathlib.Core.List.{List, [], ◌∷◌}
 use mathlib.Core.Path.{◌≡◌, refl, sym, ap, ◌∙◌}
 use mathlib.Core.Bool.{Bool, true, false}
-use Prim.Native.Nat.{ℕ, ◌+◌, ◌<◌, ◌^◌}
-use native.Mathlib.Numerals.{add-one}
+use Prim.Native.Nat.{ℕ, ◌^◌}
 use native.Mathlib.Omega.{arith}
-use borrow.Author.Rules.{rules}
 use borrow.Author.Tests.{leb-true, leb-false, le-leb, lt-leb}
 use lib.Bits.{bit_or, or_add_and, or_lt, and_le_l, and_le_r}
 use lib.Dec.{leb}
 use lib.Pow.{pow_pos}
-use lib.ListN.{length, get_or, drop}
-use lib.Seq.{drop-cons, drop-length}
-use Rattle.katan.specs.Bit.{pick}
+use Rattle.std.specs.List.{fold}
+use Rattle.katan.specs.Bit.{or, pick}
 use Rattle.lanes.specs.Many.{any}
 use Rattle.lanes.proofs.any_wide.Goals as goal
 
@@ -33,35 +30,19 @@ module _ (n a b : ℕ) where
   or_wide : leb (2 ^ n) (bit_or a b) ≡ pick (leb (2 ^ n) a) true (leb (2 ^ n) b)
   or_wide = or_cases (leb (2 ^ n) a) (leb (2 ^ n) b) refl refl
 
-pub loop-i-init : goal.loop-i-init
-loop-i-init c =
-    let a = c.args in
-    (omega arith, search rules, ap (λ (b : Bool). pick b true (any (leb (2 ^ a.n)) a.blocks.now)) (lt-leb (2 ^ a.n) 0 (pow_pos a.n)))
-
-pub loop-i-preserved : goal.loop-i-preserved
-loop-i-preserved c =
-    let l = c.loop-i in
-    let a = c.args in
-    let f = leb (2 ^ a.n) in
-    let blocks = a.blocks.now in
-    let q : l.i < length blocks = omega arith in (
-      omega arith,
-      refl,
-      ap (λ (b : Bool). pick b true (any f (drop (l.i + 1) blocks))) (or_wide a.n l.all (get_or blocks l.i 0))
-          ∙ or-or (f l.all) (f (get_or blocks l.i 0)) (any f (drop (l.i + 1) blocks))
-          ∙ ap (λ (n : ℕ). pick (f l.all) true (any f (get_or blocks l.i 0 ∷ drop n blocks))) (add-one l.i)
-          ∙ ap (λ (xs : List ℕ). pick (f l.all) true (any f xs)) (sym (drop-cons blocks l.i 0 q))
-          ∙ l.invariant.2,
-    )
+-- and an or of them all, if one of them is
+fold_wide : (n a : ℕ) (xs : List ℕ) → leb (2 ^ n) (fold or a xs) ≡ pick (leb (2 ^ n) a) true (any (leb (2 ^ n)) xs)
+fold_wide n a [] = sym (or-none (leb (2 ^ n) a))
+fold_wide n a (x ∷ xs) =
+    fold_wide n (or a x) xs
+    ∙ ap (λ (b : Bool). pick b true (any (leb (2 ^ n)) xs)) (or_wide n a x)
+    ∙ or-or (leb (2 ^ n) a) (leb (2 ^ n) x) (any (leb (2 ^ n)) xs)
 
 pub returns : goal.returns
 returns c =
-    let l = c.loop-i in
     let a = c.args in
     let f = leb (2 ^ a.n) in
-    let blocks = a.blocks.now in
-    let e : l.i ≡ length blocks = omega arith in
     c.too_wide.ensures
-    ∙ sym (or-none (f l.all))
-    ∙ ap (λ (xs : List ℕ). pick (f l.all) true (any f xs)) (sym (ap (λ (n : ℕ). drop n blocks) e ∙ drop-length blocks))
-    ∙ l.invariant.2
+    ∙ ap f c.in_one_word.ensures
+    ∙ fold_wide a.n 0 a.blocks.now
+    ∙ ap (λ (b : Bool). pick b true (any f a.blocks.now)) (lt-leb (2 ^ a.n) 0 (pow_pos a.n))
