@@ -1,70 +1,65 @@
--- The reading definitions at an offset of a line, as the code meets them.
+-- The reading definitions at the front of a text, as the code meets them.
 -- Assumes nothing.
-use Prim.Native.Nat.{ℕ, suc, ◌+◌, ◌-◌, ◌≤◌, ◌<◌}
-use mathlib.Core.Path.{◌≡◌, sym, ap, ◌∙◌}
-use mathlib.Core.Bool.{Bool, false, ◌&&◌}
-use mathlib.Core.List.{List}
-use native.Mathlib.Omega.{arith}
-use lib.Dec.{leb}
-use lib.ListN.{length, drop, get_or, drop_of_length-le, length-drop}
-use lib.Seq.{drop-cons, drop-drop}
-use borrow.Author.Tests.{eq-eqb, ne_eqb}
-use Rattle.script_form.specs.scanner.Scan.{run_in, decimal_of, decimal_in, words_of, digits_in, letter_in, begin, advance, scan, ended, whole}
+use Prim.Native.Nat.{ℕ, ◌+◌, ◌≤◌, ◌<◌}
+use mathlib.Core.Path.{◌≡◌, refl}
+use mathlib.Core.Bool.{Bool, true, false}
+use mathlib.Core.List.{List, [], ◌∷◌}
+use Rattle.std.specs.Prelude.{Option, Some, None}
+use Rattle.std.specs.Option.{option_map, option_and_then}
+use Rattle.std.specs.List.{slice_get}
+use lib.Dec.{eqb}
+use lib.ListN.{length, drop, get_or, drop_of_length-le}
+use lib.Seq.{drop-cons}
+use native.Mathlib.Numerals.{add-one}
+use borrow.Author.Tests.{le-leb, eqb-true}
+use Rattle.katan.specs.Bit.{pick}
+use Rattle.script_form.specs.scanner.Scan.{run_in, exactly, word_of, words_of, decimal_of, decimal_in, digits_in, letter_in, advance, scan}
 use Rattle.script_form.specs.declared.Fields.{Fields}
 use Rattle.script_form.specs.declared.digits.Run.{Run}
-use Rattle.script_form.specs.declared.pieces.Step.TheVariants.{Wrong, Letter}
-use Rattle.script_form.proofs.Steps.{run_within}
+use Rattle.script_form.specs.declared.pieces.Step.TheVariants.{Letter, Field, Words}
 
-module _ (line : List ℕ) (offset : ℕ) where
-  pub letter_out : (p : ℕ) → length line ≤ offset → Wrong ≡ letter_in p (drop offset line)
-  unfolding letter_in
-  letter_out p h = rw (drop_of_length-le line h)
+pub letter_front : (p : ℕ) (s : List ℕ) → letter_in p s ≡ option_and_then (λ (x : ℕ). pick (eqb x p) (Some Letter) None) (slice_get s 0)
+unfolding letter_in
+letter_front p [] = refl
+letter_front p (x ∷ s) = refl
 
-  pub letter_yes : (p : ℕ) → offset < length line → get_or line offset 0 ≡ p → Letter ≡ letter_in p (drop offset line)
-  unfolding letter_in
-  letter_yes p h e = rw (drop-cons line offset 0 h) (rw (eq-eqb _ _ e))
+pub decimal_front : (max : ℕ) (s : List ℕ) → decimal_in max s ≡ option_and_then (λ (x : ℕ). decimal_of max x (run_in 10 10 0 0 s)) (slice_get s 0)
+unfolding decimal_in
+decimal_front max [] = refl
+decimal_front max (x ∷ s) = refl
 
-  pub letter_not : (p : ℕ) → offset < length line → (get_or line offset 0 ≡ p → ⊥) → Wrong ≡ letter_in p (drop offset line)
-  unfolding letter_in
-  letter_not p h e = rw (drop-cons line offset 0 h) (rw (ne_eqb _ _ e))
+word_exact : (k : ℕ) (r : Run) → word_of k r ≡ option_map (λ (v : ℕ). Field v k) (exactly k r)
+word_exact k r = go (eqb r.count k) refl
+  where
+    go : (t : Bool) → eqb r.count k ≡ t → pick t (Some (Field r.value r.count)) None ≡ option_map (λ (v : ℕ). Field v k) (pick t (Some r.value) None)
+    go true e = rw (eqb-true r.count k e)
+    go false e = refl
 
-  pub decimal_out : (max : ℕ) → length line ≤ offset → Wrong ≡ decimal_in max (drop offset line)
-  unfolding decimal_in
-  decimal_out max h = rw (drop_of_length-le line h)
+pub hex_front : (k : ℕ) (s : List ℕ) → k ≤ 16 → digits_in k s ≡ option_map (λ (v : ℕ). Field v k) (exactly k (run_in 16 k 0 0 s))
+unfolding digits_in
+hex_front k s h = rw (le-leb k 16 h) (word_exact k (run_in 16 k 0 0 s))
 
-  pub decimal_front : (max : ℕ) (r : Run) → offset < length line → r ≡ run_in 10 10 0 0 (drop offset line) → decimal_of max (get_or line offset 0) r ≡ decimal_in max (drop offset line)
-  unfolding decimal_in
-  decimal_front max r h e = rw e (rw (drop-cons line offset 0 h))
+words_exact : (k : ℕ) (r q : Run) → words_of k r q ≡ option_and_then (λ (h : ℕ). option_map (λ (l : ℕ). Words h l (k + 16)) (exactly 16 q)) (exactly k r)
+words_exact k r q = go (eqb r.count k) (eqb q.count 16)
+  where
+    go : (t u : Bool) → pick t (pick u (Some (Words r.value q.value (k + 16))) None) None
+        ≡ option_and_then (λ (h : ℕ). option_map (λ (l : ℕ). Words h l (k + 16)) (pick u (Some q.value) None)) (pick t (Some r.value) None)
+    go true true = refl
+    go true false = refl
+    go false true = refl
+    go false false = refl
 
-  pub key_front : (high low : Run) → high ≡ run_in 16 4 0 0 (drop offset line) → low ≡ run_in 16 16 0 0 (drop (offset + 4) line) → words_of 4 high low ≡ digits_in 20 (drop offset line)
-  unfolding digits_in
-  key_front high low e f = rw (e, f) (ap (λ (s : List ℕ). words_of 4 (run_in 16 4 0 0 (drop offset line)) (run_in 16 16 0 0 s)) (sym (drop-drop 4 offset line)))
-
-  pub key_not : (high : Run) → high ≡ run_in 16 4 0 0 (drop offset line) → (high.count ≡ 4 → ⊥) → Wrong ≡ digits_in 20 (drop offset line)
-  unfolding digits_in
-  key_not high e f = rw (← e) (rw (ne_eqb _ _ f))
-
-  pub key_inside : (high : Run) → high ≡ run_in 16 4 0 0 (drop offset line) → high.count ≡ 4 → 4 ≤ length line - offset
-  key_inside high e f = omega (arith, length-drop offset line, run_within 4 (drop offset line), ap (λ (r : Run). r.count) e)
+pub key_front : (s : List ℕ) → digits_in 20 s ≡ option_and_then (λ (h : ℕ). option_map (λ (l : ℕ). Words h l 20) (exactly 16 (run_in 16 16 0 0 (drop 4 s)))) (exactly 4 (run_in 16 4 0 0 s))
+unfolding digits_in
+key_front s = words_exact 4 (run_in 16 4 0 0 s) (run_in 16 16 0 0 (drop 4 s))
 
 -- the loop over a form
 module _ (d : ℕ) (line : List ℕ) (f : Fields) (form : List ℕ) (i : ℕ) where
-  pub scan_end : length form ≤ i → scan d line f (drop i form) ≡ f
+  pub scan_end : length form ≤ i → scan d line f (drop i form) ≡ Some f
   unfolding scan
   scan_end h = rw (drop_of_length-le form h)
 
-  pub scan_next : i < length form → scan d line f (drop i form) ≡ scan d line (advance d line (get_or form i 0) f) (drop (i + 1) form)
-  unfolding scan
-  scan_next h = let e : suc i ≡ i + 1 = omega arith in rw (drop-cons form i 0 h, e)
-
--- the end of the line
-module _ (d : ℕ) (line : List ℕ) (offset : ℕ) (form : List ℕ) (f : Fields) (e : f ≡ scan d line (begin offset) form) where
-  abbrev with_ok : Bool → Fields
-  with_ok b = record { ok = b && leb (length line) f.offset; values = f.values; offset = f.offset }
-
-  pub whole_is : (b : Bool) → f.ok ≡ b → with_ok b ≡ whole d line offset form
-  unfolding whole
-  whole_is b g = sym (ap with_ok g) ∙ ap (ended line) e
-
-  pub whole_not : f.ok ≡ false → f ≡ whole d line offset form
-  whole_not g = (λ i. record { ok = g i; values = f.values; offset = f.offset }) ∙ whole_is false g
+  module _ (h : i < length form) (next : Option Fields) (e : next ≡ advance d line (get_or form i 0) f) where
+    pub scan_next : scan d line f (drop i form) ≡ option_and_then (λ (g : Fields). scan d line g (drop (i + 1) form)) next
+    unfolding scan
+    scan_next = rw (drop-cons form i 0 h, add-one i, e)

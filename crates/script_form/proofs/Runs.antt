@@ -1,20 +1,22 @@
 -- Runs of digits: what is found is what is written, and what is written is found.
 -- Assumes nothing.
-use Prim.Native.Nat.{ℕ, zero, suc, ◌+◌, ◌*◌, ◌-◌, ◌/◌, ◌%◌, ◌^◌, ◌≤◌, ◌<◌}
-use mathlib.Core.Path.{◌≡◌, refl, ap, ◌∙◌}
+use Prim.Native.Nat.{ℕ, zero, suc, ◌+◌, ◌*◌, ◌-◌, ◌/◌, ◌%◌, ◌^◌, ◌≤◌, ◌<◌, min}
+use mathlib.Core.Path.{◌≡◌, refl, ap, ◌∙◌, subst}
+use Rattle.std.specs.Prelude.{Some, None}
 use mathlib.Core.Bool.{Bool, true, false}
 use mathlib.Core.List.{List, [], ◌∷◌, ◌++◌}
 use native.Mathlib.Nat.{pow-suc, div-add-mod', mod-lt, mul-add-div_right, mul-add-mod_self_right, div-eq_of_lt, mod-eq_of_lt, add-zero, le_of_suc-le-suc, not-suc-le-zero, lt_irrefl, lt_of_lt_of_le, mul-le-mul_left, pow-le-pow_right}
 use native.Mathlib.Numerals.{add-one}
 use lib.Seq.{drop-cons}
+use Rattle.std.proofs.lemmas.List.{get_or-take, length-take}
 use native.Mathlib.Omega.{arith}
 use lib.Dec.{ltb, leb}
-use lib.ListN.{length, drop, get_or, drop_of_length-le}
-use borrow.Author.Tests.{lt-ltb, le-ltb, le-leb, lt-leb, ltb-true, ltb-false, leb-true}
+use lib.ListN.{length, take, drop, get_or, drop_of_length-le}
+use borrow.Author.Tests.{lt-ltb, le-ltb, le-leb, lt-leb, ltb-true, ltb-false, leb-true, leb-false}
 use Rattle.script_form.specs.Digits.{digit, fixed}
 use Rattle.script_form.proofs.Lengths.{div_none, div_step}
 use Rattle.katan.specs.Bit.{pick}
-use Rattle.script_form.specs.scanner.Scan.{value_of, run_in}
+use Rattle.script_form.specs.scanner.Scan.{value_of, digit_in, run_in}
 use Rattle.script_form.specs.declared.digits.Run.{Run}
 
 -- a digit's value, and back
@@ -59,6 +61,27 @@ run_stop : (b k v n x : ℕ) (s : List ℕ) → b ≤ value_of x → run_in b (s
 unfolding run_in
 run_stop b k v n x s h = simp (le-ltb _ _ h)
 
+no_digit : (b x : ℕ) → digit_in b x ≡ None → b ≤ value_of x
+no_digit b x e = go (ltb (value_of x) b) refl e
+  where
+    go : (t : Bool) → ltb (value_of x) b ≡ t → pick t (Some (value_of x)) None ≡ None → b ≤ value_of x
+    go true f g = cc
+    go false f g = ltb-false _ _ f
+
+record Digit (b x d : ℕ) : Type 0 where
+  below : value_of x < b
+  is : value_of x ≡ d
+
+a_digit : (b x d : ℕ) → digit_in b x ≡ Some d → Digit b x d
+a_digit b x d e = go (ltb (value_of x) b) refl e
+  where
+    go : (t : Bool) → ltb (value_of x) b ≡ t → pick t (Some (value_of x)) None ≡ Some d → Digit b x d
+    go true f g = record { below = ltb-true _ _ f; is = cc }
+    go false f g = cc
+
+pub digit_below : (b x d : ℕ) → digit_in b x ≡ Some d → d < b
+digit_below b x d e = let k = a_digit b x d e in subst (◌< b) k.is k.below
+
 run_end : (b k v n : ℕ) → run_in b k v n [] ≡ record { value = v; count = n }
 unfolding run_in
 run_end b zero v n = refl
@@ -68,26 +91,31 @@ run_done : (b v n : ℕ) (s : List ℕ) → run_in b 0 v n s ≡ record { value 
 unfolding run_in
 run_done b v n s = refl
 
--- the same, as the loop of the code meets it
-module _ (line : List ℕ) (b most v n i : ℕ) where
-  pub loop_out : length line ≤ i → run_in b (most - n) v n (drop i line) ≡ record { value = v; count = n }
-  loop_out h = rw (drop_of_length-le line h) (run_end b (most - n) v n)
+-- the same, as the loop of the code meets it: n of the first m bytes of a text have been read
+module _ (text : List ℕ) (b most v n m : ℕ) where
+  pub loop_end : m ≡ min (length text) most → length (take m text) ≤ n → run_in b (most - n) v n (drop n text) ≡ record { value = v; count = n }
+  loop_end e h = go (leb most n) refl
+    where
+      go : (t : Bool) → leb most n ≡ t → run_in b (most - n) v n (drop n text) ≡ record { value = v; count = n }
+      go true f = let z : most - n ≡ 0 = omega (arith, leb-true most n f) in rw z (run_done b v n _)
+      go false f =
+          let k : n < most = leb-false most n f in
+          let past : length text ≤ n = omega (arith, length-take m text) in
+          rw (drop_of_length-le text past) (run_end b (most - n) v n)
 
-  pub loop_full : most ≤ n → run_in b (most - n) v n (drop i line) ≡ record { value = v; count = n }
-  loop_full h = let e : most - n ≡ 0 = omega arith in rw e (run_done b v n _)
-
-  module _ (more : n < most) (inside : i < length line) where
-    loop_front : run_in b (most - n) v n (drop i line) ≡ run_in b (suc (most - (n + 1))) v n (get_or line i 0 ∷ drop (i + 1) line)
+  module _ (e : m ≡ min (length text) most) (h : n < length (take m text)) where
+    loop_front : run_in b (most - n) v n (drop n text) ≡ run_in b (suc (most - (n + 1))) v n (get_or (take m text) n 0 ∷ drop (n + 1) text)
     loop_front =
-        let e : most - n ≡ suc (most - (n + 1)) = omega arith in
-        let f : suc i ≡ i + 1 = omega arith in
-        rw (e, drop-cons line i 0 inside, f) refl
+        let inside : n < length text = omega (arith, length-take m text) in
+        let few : n < m = omega (arith, length-take m text) in
+        let f : most - n ≡ suc (most - (n + 1)) = omega arith in
+        rw (f, drop-cons text n 0 inside, get_or-take m text n 0 few, add-one n) refl
 
-    pub loop_stop : b ≤ value_of (get_or line i 0) → run_in b (most - n) v n (drop i line) ≡ record { value = v; count = n }
-    loop_stop h = loop_front ∙ run_stop b _ v n _ _ h
+    pub loop_stop : digit_in b (get_or (take m text) n 0) ≡ None → run_in b (most - n) v n (drop n text) ≡ record { value = v; count = n }
+    loop_stop g = loop_front ∙ run_stop b _ v n _ _ (no_digit b _ g)
 
-    pub loop_go : value_of (get_or line i 0) < b → run_in b (most - n) v n (drop i line) ≡ run_in b (most - (n + 1)) (v * b + value_of (get_or line i 0)) (n + 1) (drop (i + 1) line)
-    loop_go h = loop_front ∙ run_go b _ v n _ _ h
+    pub loop_go : (d : ℕ) → digit_in b (get_or (take m text) n 0) ≡ Some d → run_in b (most - n) v n (drop n text) ≡ run_in b (most - (n + 1)) (v * b + d) (n + 1) (drop (n + 1) text)
+    loop_go d g = let k = a_digit b _ d g in loop_front ∙ run_go b _ v n _ _ k.below ∙ ap (λ (x : ℕ). run_in b (most - (n + 1)) (v * b + x) (n + 1) (drop (n + 1) text)) k.is
 
 -- the value of n digits below 16 stays below 16 ^ n
 pub value_below : (b v d n : ℕ) → b ≤ 16 → d < b → v < 16 ^ n → v * b + d < 16 ^ (n + 1)

@@ -2,8 +2,11 @@
 -- Assumes nothing.
 use Prim.Native.Nat.{ℕ, suc, ◌+◌, ◌*◌, ◌-◌, ◌/◌, ◌%◌, ◌^◌, ◌≤◌, ◌<◌}
 use mathlib.Core.Path.{◌≡◌, refl, sym, ap, ◌∙◌, subst}
-use mathlib.Core.Bool.{Bool, true, false, ◌&&◌, false≢true}
+use mathlib.Core.Bool.{Bool, true, false}
 use mathlib.Core.List.{List, [], ◌∷◌, ◌++◌, append_assoc, append-nil}
+use Rattle.std.specs.Prelude.{Option, Some, None}
+use Rattle.std.specs.Option.{option_map, option_and_then}
+use Rattle.std.proofs.lemmas.Option.{same_Some}
 use native.Mathlib.Nat.{add-zero, div-eq_of_lt, mod-eq_of_lt, mul-add-div_right, mul-add-mod_self_right}
 use native.Mathlib.Omega.{arith}
 use lib.Dec.{T, ltb, leb, eqb, leb→le}
@@ -16,7 +19,7 @@ use Rattle.script_form.specs.Digits.{decimal, hex}
 use Rattle.script_form.specs.Form.{Piece, letter, number, digits, piece_of, first, rest, fill, fill_piece, FieldsFit, fits_piece}
 use Rattle.script_form.specs.scanner.Scan.{value_of, run_in, decimal_in, digits_in, letter_in, piece_in, push, begin, after, advance, scan, ended, whole}
 use Rattle.script_form.specs.declared.pieces.Step.{Step}
-use Rattle.script_form.specs.declared.pieces.Step.TheVariants.{Wrong, Letter, Field, Words}
+use Rattle.script_form.specs.declared.pieces.Step.TheVariants.{Letter, Field, Words}
 use Rattle.script_form.specs.declared.Values.{Values}
 use Rattle.script_form.specs.declared.Fields.{Fields}
 use Rattle.script_form.proofs.Runs.{Halts}
@@ -25,25 +28,25 @@ use Rattle.script_form.proofs.Steps.{length-decimal, pow_pos, decimal_sound, dig
 
 -- ---- a piece answers with its own kind
 
-abbrev Decimal : Step → Type 0
-Decimal Wrong = Unit {0}
-Decimal Letter = ⊥
-Decimal (Field v n) = Unit {0}
-Decimal (Words h l n) = ⊥
+abbrev Decimal : Option Step → Type 0
+Decimal None = Unit {0}
+Decimal (Some Letter) = ⊥
+Decimal (Some (Field v n)) = Unit {0}
+Decimal (Some (Words h l n)) = ⊥
 
-abbrev Digital : Step → Type 0
-Digital Wrong = Unit {0}
-Digital Letter = ⊥
-Digital (Field v n) = Unit {0}
-Digital (Words h l n) = Unit {0}
+abbrev Digital : Option Step → Type 0
+Digital None = Unit {0}
+Digital (Some Letter) = ⊥
+Digital (Some (Field v n)) = Unit {0}
+Digital (Some (Words h l n)) = Unit {0}
 
-abbrev Lettered : Step → Type 0
-Lettered Wrong = Unit {0}
-Lettered Letter = Unit {0}
-Lettered (Field v n) = ⊥
-Lettered (Words h l n) = ⊥
+abbrev Lettered : Option Step → Type 0
+Lettered None = Unit {0}
+Lettered (Some Letter) = Unit {0}
+Lettered (Some (Field v n)) = ⊥
+Lettered (Some (Words h l n)) = ⊥
 
-either : (P : Step → Type 0) (t : Bool) (a b : Step) → P a → P b → P (pick t a b)
+either : (P : Option Step → Type 0) (t : Bool) (a b : Option Step) → P a → P b → P (pick t a b)
 either P true a b p q = p
 either P false a b p q = q
 
@@ -69,13 +72,11 @@ is_lettered p (x ∷ s) = either Lettered (eqb x p) _ _ tt tt
 
 -- what a piece takes lies within the line
 abbrev Inside : ℕ → Step → Type 0
-Inside m Wrong = Unit {0}
 Inside m Letter = 1 ≤ m
 Inside m (Field v n) = n ≤ m
 Inside m (Words h l n) = n ≤ m
 
-inside_step : (q : Piece) (p : ℕ) (s : List ℕ) (st : Step) → piece_in q p s ≡ st → Inside (length s) st
-inside_step q p s Wrong e = tt
+inside_step : (q : Piece) (p : ℕ) (s : List ℕ) (st : Step) → piece_in q p s ≡ Some st → Inside (length s) st
 inside_step letter p s Letter e = (letter_sound p s e).1
 inside_step (number m) p s Letter e = absurd (subst Decimal e (is_decimal m s))
 inside_step (digits k) p s Letter e = absurd (subst Digital e (is_digital k s))
@@ -86,18 +87,9 @@ inside_step letter p s (Words h l n) e = absurd (subst Lettered e (is_lettered p
 inside_step (number m) p s (Words h l n) e = absurd (subst Decimal e (is_decimal m s))
 inside_step (digits k) p s (Words h l n) e = (words_sound k s h l n e).1.found.inside
 
-pub inside : (d p offset : ℕ) (line : List ℕ) (st : Step) → st ≡ piece_in (piece_of d p) p (drop offset line) → Inside (length line - offset) st
-inside d p offset line st e = subst (λ (m : ℕ). Inside m st) (length-drop offset line) (inside_step (piece_of d p) p (drop offset line) st (sym e))
-
--- ---- one byte of a form
-
-pub advance_stays : (d : ℕ) (line : List ℕ) (p : ℕ) (f : Fields) → f.ok ≡ false → advance d line p f ≡ f
-unfolding advance
-advance_stays d line p f e = rw e
-
-pub advance_after : (d : ℕ) (line : List ℕ) (p : ℕ) (f : Fields) (st : Step) → f.ok ≡ true → st ≡ piece_in (piece_of d p) p (drop f.offset line) → advance d line p f ≡ after f st
-unfolding advance
-advance_after d line p f st e g = ap (λ (t : Bool). pick t (after f (piece_in (piece_of d p) p (drop f.offset line))) f) e ∙ ap (after f) (sym g)
+pub inside : (d p offset : ℕ) (line text : List ℕ) (st found : Step) → Some st ≡ piece_in (piece_of d p) p text → text ≡ drop offset line → st ≡ found → Inside (length line - offset) found
+inside d p offset line text st found e f g =
+    subst (λ (m : ℕ). Inside m found) (ap length f ∙ length-drop offset line) (subst (Inside (length text)) g (inside_step (piece_of d p) p text st (sym e)))
 
 -- ---- where the values come to stand
 
@@ -116,7 +108,6 @@ store d (p ∷ ps) vs x = store_piece (piece_of d p) vs x (λ (ws : List ℕ) (y
 -- ---- sound
 
 pub record Scanned (d : ℕ) (line : List ℕ) (f r : Fields) (form : List ℕ) : Type 0 where
-  pub was : f.ok ≡ true
   pub values : List ℕ
   pub text : drop f.offset line ≡ fill d form values ++ drop r.offset line
   pub range : FieldsFit d form values
@@ -137,8 +128,7 @@ module _ (d : ℕ) (line : List ℕ) (f r : Fields) (p : ℕ) (ps : List ℕ) wh
   field_text : (t : List ℕ) (n : ℕ) (ws : List ℕ) → s ≡ t ++ drop n s → drop (f.offset + n) line ≡ fill d ps ws ++ drop r.offset line → s ≡ (t ++ fill d ps ws) ++ drop r.offset line
   field_text t n ws e g = e ∙ ap (t ++◌) (drop-drop n f.offset line ∙ g) ∙ sym (append_assoc t (fill d ps ws) (drop r.offset line))
 
-  step_sound : (q : Piece) (st : Step) → piece_in q p s ≡ st → Scanned d line (after f st) r ps → Stepped q d line f r p ps
-  step_sound q Wrong e k = absurd (false≢true k.was)
+  step_sound : (q : Piece) (st : Step) → piece_in q p s ≡ Some st → Scanned d line (after f st) r ps → Stepped q d line f r p ps
   step_sound letter Letter e k =
       record { values = k.values; text = (letter_sound p s e).0 ∙ ap (p ∷◌) (drop-drop 1 f.offset line ∙ k.text); range = k.range; stored = k.stored }
   step_sound (number m) Letter e k = absurd (subst Decimal e (is_decimal m s))
@@ -171,21 +161,22 @@ module _ (d : ℕ) (line : List ℕ) (f r : Fields) (p : ℕ) (ps : List ℕ) wh
         stored = k.stored ∙ sym (λ i. store d ps k.values (push (push x (high i)) (low i))) ∙ ap (λ (t : Bool). store d ps k.values (pick t (push x v) (push (push x (v / 16 ^ 16)) (v % 16 ^ 16)))) (sym g.0);
       }
 
-  -- a step is taken only where all was well before
-  advance_sound : Scanned d line (advance d line p f) r ps → Scanned d line f r (p ∷ ps)
-  unfolding advance
-  advance_sound k = go f.ok refl k
-    where
-      go : (t : Bool) → f.ok ≡ t → Scanned d line (pick t (after f (piece_in (piece_of d p) p s)) f) r ps → Scanned d line f r (p ∷ ps)
-      go true e k =
-          let w = step_sound (piece_of d p) (piece_in (piece_of d p) p s) refl k in
-          record { was = e; values = w.values; text = w.text; range = w.range; stored = w.stored }
-      go false e k = absurd (false≢true (sym e ∙ k.was))
+  advance_sound : (st : Step) → piece_in (piece_of d p) p s ≡ Some st → Scanned d line (after f st) r ps → Scanned d line f r (p ∷ ps)
+  advance_sound st e k =
+      let w = step_sound (piece_of d p) st e k in
+      record { values = w.values; text = w.text; range = w.range; stored = w.stored }
 
-pub scan_sound : (d : ℕ) (line : List ℕ) (f : Fields) (form : List ℕ) → (scan d line f form).ok ≡ true → Scanned d line f (scan d line f form) form
-unfolding scan
-scan_sound d line f [] e = record { was = e; values = []; text = refl; range = tt; stored = refl }
-scan_sound d line f (p ∷ ps) e = advance_sound d line f (scan d line (advance d line p f) ps) p ps (scan_sound d line (advance d line p f) ps e)
+  -- a form is found where its first byte is, and the rest after it
+  first_sound : (st : Option Step) → piece_in (piece_of d p) p s ≡ st → ((g : Fields) → scan d line g ps ≡ Some r → Scanned d line g r ps)
+      → option_and_then (λ (g : Fields). scan d line g ps) (option_map (after f) st) ≡ Some r → Scanned d line f r (p ∷ ps)
+  first_sound None e ih k = cc
+  first_sound (Some st) e ih k = advance_sound st e (ih (after f st) k)
+
+pub scan_sound : (d : ℕ) (line : List ℕ) (f r : Fields) (form : List ℕ) → scan d line f form ≡ Some r → Scanned d line f r form
+unfolding scan advance
+scan_sound d line f r [] e = subst (λ (g : Fields). Scanned d line f g []) (same_Some f r e) (record { values = []; text = refl; range = tt; stored = refl })
+scan_sound d line f r (p ∷ ps) e =
+    first_sound d line f r p ps (piece_in (piece_of d p) p (drop f.offset line)) refl (λ (g : Fields) (k : scan d line g ps ≡ Some r). scan_sound d line g r ps k) e
 
 -- ---- complete
 
@@ -218,20 +209,20 @@ halts_fill d [] ws t h = absurd h
 halts_fill d (p ∷ ps) ws t h = halt-piece (piece_of d p) p ws (λ (xs : List ℕ). fill d ps xs) t h
 
 abbrev pub at : Values → ℕ → Fields
-at x o = record { ok = true; values = x; offset = o }
+at x o = record { values = x; offset = o }
 
-same_at : (x : Values) (o o' : ℕ) → o ≡ o' → at x o ≡ at x o'
-same_at x o o' e = ap (at x) e
+same_at : (x : Values) (o o' : ℕ) → o ≡ o' → Some (at x o) ≡ Some (at x o')
+same_at x o o' e = ap (λ (i : ℕ). Some (at x i)) e
 
 -- the rest of the line after a field's text
 pub after_text : (line t u : List ℕ) (o n : ℕ) → drop o line ≡ t ++ u → length t ≡ n → drop (o + n) line ≡ u
 after_text line t u o n e h = sym (drop-drop n o line) ∙ ap (drop n) e ∙ drop_at t u n h
 
 module _ (d : ℕ) (line more : List ℕ) (p : ℕ) (ps : List ℕ) (x : Values) (o : ℕ) (vs : List ℕ)
-    (ih : (y : Values) (k : ℕ) (ws : List ℕ) → T (ready d ps) → FieldsFit d ps ws → drop k line ≡ fill d ps ws ++ more → scan d line (at y k) ps ≡ at (store d ps ws y) (k + length (fill d ps ws))) where
+    (ih : (y : Values) (k : ℕ) (ws : List ℕ) → T (ready d ps) → FieldsFit d ps ws → drop k line ≡ fill d ps ws ++ more → scan d line (at y k) ps ≡ Some (at (store d ps ws y) (k + length (fill d ps ws)))) where
   -- a field of n bytes is found, and the scan goes on behind it
   field_complete : (t : List ℕ) (n : ℕ) (y : Values) → length t ≡ n → drop o line ≡ (t ++ fill d ps (rest vs)) ++ more → T (ready d ps) → FieldsFit d ps (rest vs)
-      → scan d line (at y (o + n)) ps ≡ at (store d ps (rest vs) y) (o + length (t ++ fill d ps (rest vs)))
+      → scan d line (at y (o + n)) ps ≡ Some (at (store d ps (rest vs) y) (o + length (t ++ fill d ps (rest vs))))
   field_complete t n y e text r h =
       ih y (o + n) (rest vs) r h (after_text line t (fill d ps (rest vs) ++ more) o n (text ∙ append_assoc t (fill d ps (rest vs)) more) e)
       ∙ same_at (store d ps (rest vs) y) _ _ (omega (arith, e, length-append t (fill d ps (rest vs))))
@@ -240,11 +231,15 @@ module _ (d : ℕ) (line more : List ℕ) (p : ℕ) (ps : List ℕ) (x : Values)
   digits_after k v true = refl
   digits_after k v false = refl
 
+  -- the scan goes on with what a piece finds
+  abbrev going : Option Step → Option Fields
+  going st = option_and_then (λ (g : Fields). scan d line g ps) (option_map (after (at x o)) st)
+
   step_complete : (q : Piece) → T (ready_piece q (halting d ps) (ready d ps)) → fits_piece q vs (λ (ws : List ℕ). FieldsFit d ps ws)
       → drop o line ≡ fill_piece q p vs (λ (ws : List ℕ). fill d ps ws) ++ more
-      → scan d line (after (at x o) (piece_in q p (drop o line))) ps ≡ at (store_piece q vs x (λ (ws : List ℕ) (y : Values). store d ps ws y)) (o + length (fill_piece q p vs (λ (ws : List ℕ). fill d ps ws)))
+      → going (piece_in q p (drop o line)) ≡ Some (at (store_piece q vs x (λ (ws : List ℕ) (y : Values). store d ps ws y)) (o + length (fill_piece q p vs (λ (ws : List ℕ). fill d ps ws))))
   step_complete letter r h text =
-      ap (λ (st : Step). scan d line (after (at x o) st) ps) (ap (letter_in p) text ∙ letter_complete p (fill d ps vs ++ more))
+      ap going (ap (letter_in p) text ∙ letter_complete p (fill d ps vs ++ more))
       ∙ ih x (o + 1) vs r h (after_text line (p ∷ []) (fill d ps vs ++ more) o 1 text refl)
       ∙ same_at (store d ps vs x) _ _ (omega arith)
   step_complete (number m) r h text =
@@ -252,18 +247,18 @@ module _ (d : ℕ) (line more : List ℕ) (p : ℕ) (ps : List ℕ) (x : Values)
       let r₁ = both_right (ltb m 10000000000) (both (halting d ps) (ready d ps)) r in
       let top : m < 10 ^ 10 = leb→le (suc m) 10000000000 (both_left (ltb m 10000000000) (both (halting d ps) (ready d ps)) r) in
       let stop : Halts 10 (fill d ps (rest vs) ++ more) = halts_fill d ps (rest vs) more (both_left (halting d ps) (ready d ps) r₁) in
-      ap (λ (st : Step). scan d line (after (at x o) st) ps)
+      ap going
       (ap (decimal_in m) (text ∙ append_assoc (decimal v) (fill d ps (rest vs)) more) ∙ decimal_complete m v (fill d ps (rest vs) ++ more) h.0 top stop)
       ∙ field_complete (decimal v) (length (decimal v)) (push x v) refl text (both_right (halting d ps) (ready d ps) r₁) h.1
   step_complete (digits k) r h text =
       let v = first vs in
-      ap (λ (st : Step). scan d line (after (at x o) st) ps)
+      ap going
       (ap (digits_in k) (text ∙ append_assoc (hex k v) (fill d ps (rest vs)) more) ∙ digits_complete k v (fill d ps (rest vs) ++ more) h.0)
       ∙ ap (λ (f : Fields). scan d line f ps) (digits_after k v (leb k 16))
       ∙ field_complete (hex k v) k (pushes k x v) (length-fixed 16 k v) text r h.1
 
 pub scan_complete : (d : ℕ) (line more : List ℕ) (x : Values) (o : ℕ) (form vs : List ℕ) → T (ready d form) → FieldsFit d form vs → drop o line ≡ fill d form vs ++ more
-    → scan d line (at x o) form ≡ at (store d form vs x) (o + length (fill d form vs))
+    → scan d line (at x o) form ≡ Some (at (store d form vs x) (o + length (fill d form vs)))
 unfolding scan advance
 scan_complete d line more x o [] vs r h text = same_at x _ _ (omega arith)
 scan_complete d line more x o (p ∷ ps) vs r h text =
@@ -282,28 +277,36 @@ pub record WholeLine (d : ℕ) (line : List ℕ) (o : ℕ) (form : List ℕ) (x 
   pub range : FieldsFit d form values
   pub stored : x ≡ store d form values zeros
 
-and_left : (a b : Bool) → a && b ≡ true → a ≡ true
-and_left true b e = refl
-and_left false b e = e
+-- what has been scanned, where it ends
+record Ended (line : List ℕ) (f r : Fields) : Type 0 where
+  same : f ≡ r
+  last : length line ≤ r.offset
 
-and_right : (a b : Bool) → a && b ≡ true → b ≡ true
-and_right true b e = e
-and_right false b e = absurd (false≢true e)
+ended_sound : (line : List ℕ) (f r : Fields) → ended line f ≡ Some r → Ended line f r
+ended_sound line f r e = go (leb (length line) f.offset) refl e
+  where
+    go : (t : Bool) → leb (length line) f.offset ≡ t → pick t (Some f) None ≡ Some r → Ended line f r
+    go true g k = let s : f ≡ r = same_Some f r k in record { same = s; last = subst (λ (g : Fields). length line ≤ g.offset) s (leb-true (length line) f.offset g) }
+    go false g k = cc
 
-pub whole_sound : (d : ℕ) (line : List ℕ) (o : ℕ) (form : List ℕ) → (whole d line o form).ok ≡ true → WholeLine d line o form (whole d line o form).values
+pub whole_sound : (d : ℕ) (line : List ℕ) (o : ℕ) (form : List ℕ) (r : Fields) → whole d line o form ≡ Some r → WholeLine d line o form r.values
 unfolding whole
-whole_sound d line o form e =
-    let r = scan d line (begin o) form in
-    let k = scan_sound d line (begin o) form (and_left r.ok (leb (length line) r.offset) e) in
-    let end : drop r.offset line ≡ [] = drop_of_length-le line (leb-true (length line) r.offset (and_right r.ok (leb (length line) r.offset) e)) in
-    record { values = k.values; text = k.text ∙ ap (fill d form k.values ++◌) end ∙ append-nil (fill d form k.values); range = k.range; stored = k.stored }
+whole_sound d line o form r e = go (scan d line (begin o) form) refl e
+  where
+    go : (f : Option Fields) → scan d line (begin o) form ≡ f → option_and_then (ended line) f ≡ Some r → WholeLine d line o form r.values
+    go None g h = cc
+    go (Some f) g h =
+        let z = ended_sound line f r h in
+        let k = scan_sound d line (begin o) r form (g ∙ ap Some z.same) in
+        let end : drop r.offset line ≡ [] = drop_of_length-le line z.last in
+        record { values = k.values; text = k.text ∙ ap (fill d form k.values ++◌) end ∙ append-nil (fill d form k.values); range = k.range; stored = k.stored }
 
 pub whole_complete : (d : ℕ) (line : List ℕ) (o : ℕ) (form vs : List ℕ) → T (ready d form) → FieldsFit d form vs → drop o line ≡ fill d form vs
-    → whole d line o form ≡ at (store d form vs zeros) (o + length (fill d form vs))
+    → whole d line o form ≡ Some (at (store d form vs zeros) (o + length (fill d form vs)))
 unfolding whole
 whole_complete d line o form vs r h text =
     let n : length line - o ≡ length (fill d form vs) = sym (length-drop o line) ∙ ap length text in
-    ap (ended line) (scan_complete d line [] zeros o form vs r h (text ∙ sym (append-nil (fill d form vs))))
+    ap (option_and_then (ended line)) (scan_complete d line [] zeros o form vs r h (text ∙ sym (append-nil (fill d form vs))))
     ∙ rw (le-leb (length line) (o + length (fill d form vs)) (omega arith))
 
 -- ---- how long a filled form is

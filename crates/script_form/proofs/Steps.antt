@@ -4,6 +4,7 @@ use Prim.Native.Nat.{ℕ, zero, suc, ◌+◌, ◌*◌, ◌-◌, ◌/◌, ◌%◌
 use mathlib.Core.Path.{◌≡◌, refl, sym, ap, ◌∙◌, subst}
 use mathlib.Core.Bool.{Bool, true, false}
 use mathlib.Core.List.{List, [], ◌∷◌, ◌++◌, append_assoc}
+use Rattle.std.specs.Prelude.{Some, None}
 use native.Mathlib.Nat.{pow-suc, div-eq_of_lt, mod-eq_of_lt, div-lt_iff_lt-mul, one-le-pow, lt_of_lt_of_le, le_trans, mod-lt, lt_irrefl, le-div_iff_mul-le, one-mul, zero-add, add-zero, suc-add, suc-mul, mul_comm, mul_assoc, mul-le-mul_right, mul-add-div_right, mul-add-mod_self_right, div-div-eq-div-mul, div-add-mod'}
 use native.Mathlib.Omega.{arith}
 use lib.Dec.{ltb, leb, eqb, lit<, lit≤}
@@ -18,7 +19,7 @@ use Rattle.script_form.specs.Form.{first}
 use Rattle.script_form.specs.scanner.Scan.{value_of, run_in, decimal_of, decimal_in, word_of, words_of, digits_in, letter_in}
 use Rattle.script_form.specs.declared.digits.Run.{Run}
 use Rattle.script_form.specs.declared.pieces.Step.{Step}
-use Rattle.script_form.specs.declared.pieces.Step.TheVariants.{Wrong, Letter, Field, Words}
+use Rattle.script_form.specs.declared.pieces.Step.TheVariants.{Letter, Field, Words}
 use Rattle.script_form.proofs.Runs.{value_digit, run_eq, run_sound, run_complete, Halts, Ran}
 
 pub pow_pos : (b k : ℕ) → 0 < b → 0 < b ^ k
@@ -65,31 +66,25 @@ record Decided (max x : ℕ) (r : Run) (v u : ℕ) : Type 0 where
   small : v ≤ max
   lead : 1 < u → x ≡ 48 → ⊥
 
-no_field : {v u : ℕ} → Wrong ≡ Field v u → ⊥
-no_field e = let z : ◌≡◌ {A = ℕ} 0 1 = cc in omega arith
-
-no_letter : Wrong ≡ Letter → ⊥
-no_letter e = let z : ◌≡◌ {A = ℕ} 0 1 = cc in omega arith
-
-field_value : {v u w n : ℕ} → Field v u ≡ Field w n → v ≡ w
+field_value : {v u w n : ℕ} → Some (Field v u) ≡ Some (Field w n) → v ≡ w
 field_value e = cc
 
-field_count : {v u w n : ℕ} → Field v u ≡ Field w n → u ≡ n
+field_count : {v u w n : ℕ} → Some (Field v u) ≡ Some (Field w n) → u ≡ n
 field_count e = cc
 
-decided_field : (max x : ℕ) (r : Run) (v u : ℕ) → decimal_of max x r ≡ Field v u → Decided max x r v u
+decided_field : (max x : ℕ) (r : Run) (v u : ℕ) → decimal_of max x r ≡ Some (Field v u) → Decided max x r v u
 decided_field max x r v u = go (eqb r.count 0) (ltb max r.value) (eqb r.count 1) (eqb x 48) refl refl refl refl
   where
     go : (a b c d : Bool) → eqb r.count 0 ≡ a → ltb max r.value ≡ b → eqb r.count 1 ≡ c → eqb x 48 ≡ d
-        → pick a Wrong (pick b Wrong (pick c (Field r.value r.count) (pick d Wrong (Field r.value r.count)))) ≡ Field v u → Decided max x r v u
-    go true b c d p q s t e = absurd (no_field e)
-    go false true c d p q s t e = absurd (no_field e)
+        → pick a None (pick b None (pick c (Some (Field r.value r.count)) (pick d None (Some (Field r.value r.count))))) ≡ Some (Field v u) → Decided max x r v u
+    go true b c d p q s t e = cc
+    go false true c d p q s t e = cc
     go false false true d p q s t e =
         let one : r.count ≡ 1 = eqb-true _ _ s in
         let i : r.count ≡ u = field_count e in
         let j : r.value ≡ v = field_value e in
         record { value = j; count = i; some = omega arith; small = omega (arith, ltb-false max r.value q); lead = λ h f. omega arith }
-    go false false false true p q s t e = absurd (no_field e)
+    go false false false true p q s t e = cc
     go false false false false p q s t e =
         let z : r.count ≡ 0 → ⊥ = eqb-false _ _ p in
         let i : r.count ≡ u = field_count e in
@@ -132,17 +127,17 @@ decimal_found max x t r v u d q =
       },
     )
 
-pub decimal_sound : (max : ℕ) (s : List ℕ) (v u : ℕ) → decimal_in max s ≡ Field v u → (v ≤ max) × Found decimal s v u
+pub decimal_sound : (max : ℕ) (s : List ℕ) (v u : ℕ) → decimal_in max s ≡ Some (Field v u) → (v ≤ max) × Found decimal s v u
 unfolding decimal_in
-decimal_sound max [] v u e = absurd (no_field e)
+decimal_sound max [] v u e = cc
 decimal_sound max (x ∷ t) v u e = decimal_found max x t (run_in 10 10 0 0 (x ∷ t)) v u (decided_field max x (run_in 10 10 0 0 (x ∷ t)) v u e) (run_sound 10 (lit< tt) (lit≤ tt) 10 0 0 (x ∷ t))
 
 -- ---- hexadecimal digits in one word
 
-word_found : (k : ℕ) (s : List ℕ) (r : Run) (v u : ℕ) → word_of k r ≡ Field v u → Ran 16 (lit< tt) (lit≤ tt) k 0 0 s r → (v < 16 ^ k) × Found (hex k) s v u
+word_found : (k : ℕ) (s : List ℕ) (r : Run) (v u : ℕ) → word_of k r ≡ Some (Field v u) → Ran 16 (lit< tt) (lit≤ tt) k 0 0 s r → (v < 16 ^ k) × Found (hex k) s v u
 word_found k s r v u e q = go (eqb r.count k) refl e
   where
-    go : (t : Bool) → eqb r.count k ≡ t → pick t (Field r.value r.count) Wrong ≡ Field v u → (v < 16 ^ k) × Found (hex k) s v u
+    go : (t : Bool) → eqb r.count k ≡ t → pick t (Some (Field r.value r.count)) None ≡ Some (Field v u) → (v < 16 ^ k) × Found (hex k) s v u
     go true f e =
         let i : k ≡ u = omega (arith, eqb-true r.count k f, field_count e) in (
           rw i (below 16 u v (lit< tt) (ran_high 16 k (lit< tt) (lit≤ tt) s r v u q (field_value e) (field_count e))),
@@ -151,7 +146,7 @@ word_found k s r v u e q = go (eqb r.count k) refl e
             inside = ran_inside 16 k (lit< tt) (lit≤ tt) s r v u q (field_value e) (field_count e);
           },
         )
-    go false f e = absurd (no_field e)
+    go false f e = cc
 
 word_complete : (k v : ℕ) (s : List ℕ) → v < 16 ^ k → run_in 16 k 0 0 (hex k v ++ s) ≡ record { value = v; count = k }
 word_complete k v s h =
@@ -201,10 +196,10 @@ pub record Halves (k : ℕ) (s : List ℕ) (h l u : ℕ) : Type 0 where
   pub small : h * 16 ^ 16 + l < 16 ^ k
   pub found : Found (hex k) s (h * 16 ^ 16 + l) u
 
-words_found : (k : ℕ) (s : List ℕ) (r q : Run) (h l u : ℕ) → words_of k r q ≡ Words h l u → Ran 16 (lit< tt) (lit≤ tt) k 0 0 s r → Ran 16 (lit< tt) (lit≤ tt) 16 0 0 (drop k s) q → Halves (k + 16) s h l u
+words_found : (k : ℕ) (s : List ℕ) (r q : Run) (h l u : ℕ) → words_of k r q ≡ Some (Words h l u) → Ran 16 (lit< tt) (lit≤ tt) k 0 0 s r → Ran 16 (lit< tt) (lit≤ tt) 16 0 0 (drop k s) q → Halves (k + 16) s h l u
 words_found k s r q h l u e x y = go (eqb r.count k) (eqb q.count 16) refl refl e
   where
-    go : (a b : Bool) → eqb r.count k ≡ a → eqb q.count 16 ≡ b → pick a (pick b (Words r.value q.value (k + 16)) Wrong) Wrong ≡ Words h l u → Halves (k + 16) s h l u
+    go : (a b : Bool) → eqb r.count k ≡ a → eqb q.count 16 ≡ b → pick a (pick b (Some (Words r.value q.value (k + 16))) None) None ≡ Some (Words h l u) → Halves (k + 16) s h l u
     go true true f g e =
         let eh : r.value ≡ h = cc in
         let el : q.value ≡ l = cc in
@@ -225,36 +220,36 @@ words_found k s r q h l u e x y = go (eqb r.count k) (eqb q.count 16) refl refl 
             inside = omega (arith, length-drop k s);
           };
         }
-    go true false f g e = let z : ◌≡◌ {A = ℕ} 0 1 = cc in absurd (omega arith)
-    go false b f g e = let z : ◌≡◌ {A = ℕ} 0 1 = cc in absurd (omega arith)
+    go true false f g e = cc
+    go false b f g e = cc
 
 -- ---- either
 
-word_words : (t : Bool) (v n h l u : ℕ) → pick t (Field v n) Wrong ≡ Words h l u → ⊥
-word_words true v n h l u e = let z : ◌≡◌ {A = ℕ} 0 1 = cc in omega arith
-word_words false v n h l u e = let z : ◌≡◌ {A = ℕ} 0 1 = cc in omega arith
+word_words : (t : Bool) (v n h l u : ℕ) → pick t (Some (Field v n)) None ≡ Some (Words h l u) → ⊥
+word_words true v n h l u e = cc
+word_words false v n h l u e = cc
 
-words_field : (a b : Bool) (h l n v u : ℕ) → pick a (pick b (Words h l n) Wrong) Wrong ≡ Field v u → ⊥
-words_field true true h l n v u e = let z : ◌≡◌ {A = ℕ} 0 1 = cc in omega arith
-words_field true false h l n v u e = no_field e
-words_field false b h l n v u e = no_field e
+words_field : (a b : Bool) (h l n v u : ℕ) → pick a (pick b (Some (Words h l n)) None) None ≡ Some (Field v u) → ⊥
+words_field true true h l n v u e = cc
+words_field true false h l n v u e = cc
+words_field false b h l n v u e = cc
 
-pub digits_sound : (k : ℕ) (s : List ℕ) (v u : ℕ) → digits_in k s ≡ Field v u → (leb k 16 ≡ true) × (v < 16 ^ k) × Found (hex k) s v u
+pub digits_sound : (k : ℕ) (s : List ℕ) (v u : ℕ) → digits_in k s ≡ Some (Field v u) → (leb k 16 ≡ true) × (v < 16 ^ k) × Found (hex k) s v u
 unfolding digits_in
 digits_sound k s v u e = go (leb k 16) e
   where
-    go : (t : Bool) → pick t (word_of k (run_in 16 k 0 0 s)) (words_of (k - 16) (run_in 16 (k - 16) 0 0 s) (run_in 16 16 0 0 (drop (k - 16) s))) ≡ Field v u → (t ≡ true) × (v < 16 ^ k) × Found (hex k) s v u
+    go : (t : Bool) → pick t (word_of k (run_in 16 k 0 0 s)) (words_of (k - 16) (run_in 16 (k - 16) 0 0 s) (run_in 16 16 0 0 (drop (k - 16) s))) ≡ Some (Field v u) → (t ≡ true) × (v < 16 ^ k) × Found (hex k) s v u
     go true e = let g = word_found k s (run_in 16 k 0 0 s) v u e (run_sound 16 (lit< tt) (lit≤ tt) k 0 0 s) in (refl, g.0, g.1)
     go false e =
         let r = run_in 16 (k - 16) 0 0 s in
         let q = run_in 16 16 0 0 (drop (k - 16) s) in
         absurd (words_field (eqb r.count (k - 16)) (eqb q.count 16) r.value q.value (k - 16 + 16) v u e)
 
-pub words_sound : (k : ℕ) (s : List ℕ) (h l u : ℕ) → digits_in k s ≡ Words h l u → (leb k 16 ≡ false) × Halves k s h l u
+pub words_sound : (k : ℕ) (s : List ℕ) (h l u : ℕ) → digits_in k s ≡ Some (Words h l u) → (leb k 16 ≡ false) × Halves k s h l u
 unfolding digits_in
 words_sound k s h l u e = go (leb k 16) refl e
   where
-    go : (t : Bool) → leb k 16 ≡ t → pick t (word_of k (run_in 16 k 0 0 s)) (words_of (k - 16) (run_in 16 (k - 16) 0 0 s) (run_in 16 16 0 0 (drop (k - 16) s))) ≡ Words h l u → (t ≡ false) × Halves k s h l u
+    go : (t : Bool) → leb k 16 ≡ t → pick t (word_of k (run_in 16 k 0 0 s)) (words_of (k - 16) (run_in 16 (k - 16) 0 0 s) (run_in 16 16 0 0 (drop (k - 16) s))) ≡ Some (Words h l u) → (t ≡ false) × Halves k s h l u
     go true f e = let r = run_in 16 k 0 0 s in absurd (word_words (eqb r.count k) r.value r.count h l u e)
     go false f e =
         let n : k - 16 + 16 ≡ k = omega (arith, leb-false k 16 f) in (
@@ -266,11 +261,11 @@ words_sound k s h l u e = go (leb k 16) refl e
 abbrev pub step_of : ℕ → ℕ → Step
 step_of k v = pick (leb k 16) (Field v k) (Words (v / 16 ^ 16) (v % 16 ^ 16) k)
 
-pub digits_complete : (k v : ℕ) (s : List ℕ) → v < 16 ^ k → digits_in k (hex k v ++ s) ≡ step_of k v
+pub digits_complete : (k v : ℕ) (s : List ℕ) → v < 16 ^ k → digits_in k (hex k v ++ s) ≡ Some (step_of k v)
 unfolding digits_in
 digits_complete k v s less = go (leb k 16) refl
   where
-    go : (t : Bool) → leb k 16 ≡ t → pick t (word_of k (run_in 16 k 0 0 (hex k v ++ s))) (words_of (k - 16) (run_in 16 (k - 16) 0 0 (hex k v ++ s)) (run_in 16 16 0 0 (drop (k - 16) (hex k v ++ s)))) ≡ pick t (Field v k) (Words (v / 16 ^ 16) (v % 16 ^ 16) k)
+    go : (t : Bool) → leb k 16 ≡ t → pick t (word_of k (run_in 16 k 0 0 (hex k v ++ s))) (words_of (k - 16) (run_in 16 (k - 16) 0 0 (hex k v ++ s)) (run_in 16 16 0 0 (drop (k - 16) (hex k v ++ s)))) ≡ Some (pick t (Field v k) (Words (v / 16 ^ 16) (v % 16 ^ 16) k))
     go true f = ap (word_of k) (word_complete k v s less) ∙ rw (eq-eqb k k refl)
     go false f =
         let n : k - 16 + 16 ≡ k = omega (arith, leb-false k 16 f) in
@@ -281,7 +276,7 @@ digits_complete k v s less = go (leb k 16) refl
         let rest : drop (k - 16) (hex k v ++ s) ≡ hex 16 (v % 16 ^ 16) ++ s = ap (drop (k - 16)) text ∙ drop_at (hex (k - 16) (v / 16 ^ 16)) (hex 16 (v % 16 ^ 16) ++ s) (k - 16) (length-fixed 16 (k - 16) (v / 16 ^ 16)) in
         (λ i. words_of (k - 16) (run_in 16 (k - 16) 0 0 (text i)) (run_in 16 16 0 0 (rest i)))
         ∙ (λ i. words_of (k - 16) (word_complete (k - 16) (v / 16 ^ 16) (hex 16 (v % 16 ^ 16) ++ s) high i) (word_complete 16 (v % 16 ^ 16) s low i))
-        ∙ rw (eq-eqb (k - 16) (k - 16) refl) (ap (Words (v / 16 ^ 16) (v % 16 ^ 16)) n)
+        ∙ rw (eq-eqb (k - 16) (k - 16) refl) (ap (λ (i : ℕ). Some (Words (v / 16 ^ 16) (v % 16 ^ 16) i)) n)
 
 -- a decimal's leading digit is no zero, unless it is the only one
 lead_one : (k v : ℕ) → 10 ^ k ≤ v → v < 10 ^ suc k → digit (v / 10 ^ k % 10) ≡ 48 → ⊥
@@ -291,10 +286,10 @@ lead_one k v low high e =
     let b : v / 10 ^ k < 10 = (div-lt_iff_lt-mul {k = 10 ^ k} {x = v} {y = 10} (pow_pos 10 k (lit< tt))).1 (omega (arith, pow-suc 10 k)) in
     omega (arith, simp (mod-eq_of_lt b, lt-ltb (v / 10 ^ k) 10 b) at e)
 
-decide : (max x v k : ℕ) → v ≤ max → (0 < k → x ≡ 48 → ⊥) → decimal_of max x (record { value = v; count = 0 + suc k }) ≡ Field v (suc k)
+decide : (max x v k : ℕ) → v ≤ max → (0 < k → x ≡ 48 → ⊥) → decimal_of max x (record { value = v; count = 0 + suc k }) ≡ Some (Field v (suc k))
 decide max x v zero h lead = rw (le-ltb max v h) refl
 decide max x v (suc k) h lead =
-    rw (ne_eqb (0 + suc (suc k)) 0 (omega arith), le-ltb max v h, ne_eqb (0 + suc (suc k)) 1 (omega arith), ne_eqb x 48 (lead (omega arith))) (ap (Field v) (omega arith))
+    rw (ne_eqb (0 + suc (suc k)) 0 (omega arith), le-ltb max v h, ne_eqb (0 + suc (suc k)) 1 (omega arith), ne_eqb x 48 (lead (omega arith))) (ap (λ (i : ℕ). Some (Field v i)) (omega arith))
 
 few : (v : ℕ) → v < 10 ^ 10 → suc (place 19 v) ≤ 10
 few v h = go (leb 10 (place 19 v)) refl
@@ -309,24 +304,24 @@ pub length-decimal : (v : ℕ) → v < 10 ^ 10 → length (decimal v) ≤ 10
 unfolding decimal
 length-decimal v h = rw (length-fixed 10 (suc (place 19 v)) v) (few v h)
 
-pub decimal_complete : (max v : ℕ) (s : List ℕ) → v ≤ max → max < 10 ^ 10 → Halts 10 s → decimal_in max (decimal v ++ s) ≡ Field v (length (decimal v))
+pub decimal_complete : (max v : ℕ) (s : List ℕ) → v ≤ max → max < 10 ^ 10 → Halts 10 s → decimal_in max (decimal v ++ s) ≡ Some (Field v (length (decimal v)))
 unfolding decimal_in decimal fixed
 decimal_complete max v s h top stop =
     let high : v < 10 ^ suc (place 19 v) = place_high 19 v (omega arith) in
     let m : run_in 10 10 0 0 (fixed 10 (suc (place 19 v)) v ++ s) ≡ record { value = v; count = 0 + suc (place 19 v) } =
     rw (div-eq_of_lt high) at (run_complete 10 (lit< tt) (lit≤ tt) 10 (suc (place 19 v)) 0 v s (few v (omega arith)) (λ x. stop)) in
-    ap (decimal_of max (digit (v / 10 ^ place 19 v % 10))) m ∙ decide max _ v (place 19 v) h (λ p. lead_one (place 19 v) v (place_low 19 v p) high) ∙ ap (Field v) (sym (length-fixed 10 (suc (place 19 v)) v))
+    ap (decimal_of max (digit (v / 10 ^ place 19 v % 10))) m ∙ decide max _ v (place 19 v) h (λ p. lead_one (place 19 v) v (place_low 19 v p) high) ∙ ap (λ (i : ℕ). Some (Field v i)) (sym (length-fixed 10 (suc (place 19 v)) v))
 
-pub letter_sound : (p : ℕ) (s : List ℕ) → letter_in p s ≡ Letter → (s ≡ p ∷ drop 1 s) × (1 ≤ length s)
+pub letter_sound : (p : ℕ) (s : List ℕ) → letter_in p s ≡ Some Letter → (s ≡ p ∷ drop 1 s) × (1 ≤ length s)
 unfolding letter_in
-letter_sound p [] e = absurd (no_letter e)
+letter_sound p [] e = cc
 letter_sound p (x ∷ s) e = go (eqb x p) refl e
   where
-    go : (t : Bool) → eqb x p ≡ t → pick t Letter Wrong ≡ Letter → (x ∷ s ≡ p ∷ s) × (1 ≤ suc (length s))
+    go : (t : Bool) → eqb x p ≡ t → pick t (Some Letter) None ≡ Some Letter → (x ∷ s ≡ p ∷ s) × (1 ≤ suc (length s))
     go true f e = (ap (◌∷ s) (eqb-true _ _ f), omega arith)
-    go false f e = absurd (no_letter e)
+    go false f e = cc
 
-pub letter_complete : (p : ℕ) (s : List ℕ) → letter_in p (p ∷ s) ≡ Letter
+pub letter_complete : (p : ℕ) (s : List ℕ) → letter_in p (p ∷ s) ≡ Some Letter
 unfolding letter_in
 letter_complete p s = rw (eq-eqb p p refl)
 

@@ -1,6 +1,6 @@
-// Runs of digits in a line.
-ghost use Rattle.std.specs.Prelude.{◌≡◌, ◌≤◌, drop};
-ghost use Rattle.script_form.specs.scanner.Scan.{value_of, run_in};
+// Runs of digits at the front of a text.
+ghost use Rattle.std.specs.Prelude.{◌≡◌, ◌≤◌};
+ghost use Rattle.script_form.specs.scanner.Scan.{digit_in, exactly, run_in};
 
 // A run of digits: its value, and how many there are.
 #[derive(Clone, Copy)]
@@ -9,42 +9,48 @@ pub struct Run {
     pub count: usize,
 }
 
-// The value of a digit, 16 for any other byte.
-pub fn value_of(b: u8) -> u64
-    ensures { result ≡ value_of b }
+// The digit that a byte is in a base.
+#[tactic(auto, unfolding(crate::specs::scanner::Scan::value_of))]
+fn digit_in(b: u8, base: u64) -> Option<u64>
+    requires { base ≤ 16 }
+    ensures { result ≡ digit_in base b }
 {
-    if b < 48 {
-        16
-    } else if b <= 57 {
-        (b - 48) as u64
-    } else if b < 97 {
-        16
-    } else if b <= 102 {
-        (b - 87) as u64
-    } else {
-        16
-    }
+    let value = match b {
+        b'0'..=b'9' => b - b'0',
+        b'a'..=b'f' => b - b'a' + 10,
+        _ => return None,
+    };
+    let value = u64::from(value);
+    if value < base { Some(value) } else { None }
 }
 
-// The longest run of at most `most` digits that starts at an offset.
-pub fn run_at(line: &[u8], offset: usize, base: u64, most: usize) -> Run
+// The longest run of at most `most` digits.
+pub fn run_in(text: &[u8], base: u64, most: usize) -> Run
     requires { (base ≤ 16) × (most ≤ 16) }
-    ensures { result ≡ run_in base most 0 0 (drop offset line.now) }
+    ensures { result ≡ run_in base most 0 0 text.now }
 {
+    let front = &text[..text.len().min(most)];
     let mut value: u64 = 0;
     let mut count: usize = 0;
-    let mut i: usize = offset;
-    while count < most {
-        if line.len() <= i {
-            return Run { value, count };
-        }
-        let d = value_of(line[i]);
-        if base <= d {
-            return Run { value, count };
-        }
-        value = value * base + d;
+    for b in front {
+        let Some(digit) = digit_in(*b, base) else {
+            break;
+        };
+        value = value * base + digit;
         count += 1;
-        i += 1;
     }
     Run { value, count }
+}
+
+// The value of a run of just `count` hexadecimal digits.
+pub fn word_in(text: &[u8], count: usize) -> Option<u64>
+    requires { count ≤ 16 }
+    ensures { result ≡ exactly count (run_in 16 count 0 0 text.now) }
+{
+    let run = run_in(text, 16, count);
+    if run.count == count {
+        Some(run.value)
+    } else {
+        None
+    }
 }

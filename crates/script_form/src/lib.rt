@@ -5,7 +5,7 @@ ghost use Rattle.std.specs.Prelude.{◌≡◌, ◌≤◌};
 ghost use Rattle.script_form.specs.Form.{block_digits};
 ghost use Rattle.script_form.specs.scanner.Scan.{push, begin, advance, scan, whole};
 
-use crate::pieces::{Step, piece_at};
+use crate::pieces::{Step, piece_in, rest_of};
 
 mod digits;
 mod pieces;
@@ -21,108 +21,86 @@ pub fn block_digits(variant: u8) -> usize
 pub const WORDS: usize = 8;
 
 // The values of a form's fields from left to right: a word each, a key two, the upper first.
+// No heap is a rule of the project: a fixed buffer, and how much of it is used.
 #[derive(Clone, Copy)]
 pub struct Values {
     pub words: [u64; WORDS],
     pub count: usize,
 }
 
-// One word more; where there is no room for it, it is lost.
-fn pushed(values: Values, word: u64) -> Values
-    ensures { result ≡ push values word }
-{
-    let count = values.count;
-    if WORDS <= count {
-        return values;
-    }
-    let mut words = values.words;
-    words[count] = word;
-    Values {
-        words: words,
-        count: count + 1,
+impl Values {
+    // One word more; where there is no room for it, it is lost.
+    #[tactic(auto, unfolding(crate::specs::scanner::Scan::push))]
+    fn with(self, word: u64) -> Values
+        ensures { result ≡ push self word }
+    {
+        let mut values = self;
+        if values.count < WORDS {
+            values.words[values.count] = word;
+            values.count += 1;
+        }
+        values
     }
 }
 
 // What a form has found so far, and the offset that is read next.
 #[derive(Clone, Copy)]
 pub struct Fields {
-    pub ok: bool,
     pub values: Values,
     pub offset: usize,
 }
 
+// Nothing is found yet.
 fn begun(offset: usize) -> Fields
     ensures { result ≡ begin offset }
 {
-    let none = Values {
+    let values = Values {
         words: [0; WORDS],
         count: 0,
     };
-    Fields {
-        ok: true,
-        values: none,
-        offset,
-    }
+    Fields { values, offset }
 }
 
 // One byte of a form further.
-fn advanced(line: &[u8], p: u8, digits: usize, found: Fields) -> Fields
+#[tactic(auto, unfolding(crate::specs::scanner::Scan::advance))]
+fn advanced(line: &[u8], p: u8, digits: usize, found: Fields) -> Option<Fields>
     requires { digits ≤ 16 }
     ensures { result ≡ advance digits line.now p found }
 {
-    if !found.ok {
-        return found;
-    }
-    let offset = found.offset;
-    let values = found.values;
-    match piece_at(line, offset, p, digits) {
-        Step::Wrong => Fields {
-            ok: false,
-            values,
-            offset,
-        },
+    let Fields { values, offset } = found;
+    let next = match piece_in(rest_of(line, offset), p, digits)? {
         Step::Letter => Fields {
-            ok: true,
             values,
             offset: offset + 1,
         },
         Step::Field { value, length } => Fields {
-            ok: true,
-            values: pushed(values, value),
+            values: values.with(value),
             offset: offset + length,
         },
         Step::Words { high, low, length } => Fields {
-            ok: true,
-            values: pushed(pushed(values, high), low),
+            values: values.with(high).with(low),
             offset: offset + length,
         },
-    }
+    };
+    Some(next)
 }
 
 // A form, from an offset on, where a block has a variant's digits.
-pub fn fields_at(form: &[u8], line: &[u8], offset: usize, variant: u8) -> Fields
+pub fn fields_at(form: &[u8], line: &[u8], offset: usize, variant: u8) -> Option<Fields>
     ensures { result ≡ scan (block_digits variant) line.now (begin offset) form.now }
 {
     let digits = block_digits(variant);
     let mut found = begun(offset);
-    let mut f: usize = 0;
-    while f < form.len() {
-        found = advanced(line, form[f], digits, found);
-        f += 1;
+    for p in form {
+        found = advanced(line, *p, digits, found)?;
     }
-    found
+    Some(found)
 }
 
 // A form that goes from an offset to the end of the line.
-pub fn whole_at(form: &[u8], line: &[u8], offset: usize, variant: u8) -> Fields
+#[tactic(auto, unfolding(crate::specs::scanner::Scan::whole))]
+pub fn whole_at(form: &[u8], line: &[u8], offset: usize, variant: u8) -> Option<Fields>
     ensures { result ≡ whole (block_digits variant) line.now offset form.now }
 {
-    let found = fields_at(form, line, offset, variant);
-    let ended = line.len() <= found.offset;
-    let values = found.values;
-    Fields {
-        ok: found.ok && ended,
-        values,
-        offset: found.offset,
-    }
+    fields_at(form, line, offset, variant).filter(|found| line.len() <= found.offset)
 }

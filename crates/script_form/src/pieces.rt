@@ -1,110 +1,94 @@
-// What a byte of a form finds at an offset of a line.
+// What a byte of a form finds at the front of a text.
 ghost use Rattle.std.specs.Prelude.{◌≡◌, ◌≤◌, drop};
 ghost use Rattle.script_form.specs.Form.{piece_of};
 ghost use Rattle.script_form.specs.scanner.Scan.{decimal_in, digits_in, letter_in, piece_in};
 
-use crate::digits::run_at;
+use crate::digits::{run_in, word_in};
 
-// What a piece of a form finds: nothing of its kind, its own byte, or a value (a key's two words) and how many bytes it takes.
+// What a piece of a form finds: its own byte, or a value (a key's two words) and how many bytes it takes.
 #[derive(Clone, Copy)]
 pub enum Step {
-    Wrong,
     Letter,
     Field { value: u64, length: usize },
     Words { high: u64, low: u64, length: usize },
 }
 
-// A decimal without leading zeros, up to `max`.
-pub fn decimal_at(line: &[u8], offset: usize, max: u64) -> Step
-    ensures { result ≡ decimal_in max (drop offset line.now) }
+// The text from an offset on; nothing past its end.
+pub fn rest_of(text: &[u8], offset: usize) -> &[u8]
+    ensures { result.now ≡ drop offset text.now }
 {
-    if line.len() <= offset {
-        return Step::Wrong;
+    &text[text.len().min(offset)..]
+}
+
+// A decimal without leading zeros, up to `max`.
+#[tactic(auto, using(crate::proofs::Fronts::decimal_front))]
+fn decimal_in(text: &[u8], max: u64) -> Option<Step>
+    ensures { result ≡ decimal_in max text.now }
+{
+    let first = *text.first()?;
+    let run = run_in(text, 10, 10);
+    if run.count == 0 || max < run.value {
+        return None;
     }
-    let first = line[offset];
-    let run = run_at(line, offset, 10, 10);
-    if run.count == 0 {
-        return Step::Wrong;
+    if run.count != 1 && first == b'0' {
+        return None;
     }
-    if max < run.value {
-        return Step::Wrong;
-    }
-    if run.count == 1 {
-        return Step::Field {
-            value: run.value,
-            length: run.count,
-        };
-    }
-    if first == b'0' {
-        return Step::Wrong;
-    }
-    Step::Field {
+    Some(Step::Field {
         value: run.value,
         length: run.count,
-    }
+    })
 }
 
 // `count` hexadecimal digits.
-pub fn hex_at(line: &[u8], offset: usize, count: usize) -> Step
+#[tactic(auto, using(crate::proofs::Fronts::hex_front))]
+fn hex_in(text: &[u8], count: usize) -> Option<Step>
     requires { count ≤ 16 }
-    ensures { result ≡ digits_in count (drop offset line.now) }
+    ensures { result ≡ digits_in count text.now }
 {
-    let run = run_at(line, offset, 16, count);
-    if run.count == count {
-        Step::Field {
-            value: run.value,
-            length: run.count,
-        }
-    } else {
-        Step::Wrong
-    }
+    let value = word_in(text, count)?;
+    Some(Step::Field {
+        value,
+        length: count,
+    })
 }
 
 // The 20 hexadecimal digits of a key: the upper 4, and the lower 16.
-pub fn key_at(line: &[u8], offset: usize) -> Step
-    ensures { result ≡ digits_in 20 (drop offset line.now) }
+#[tactic(auto, using(crate::proofs::Fronts::key_front))]
+fn key_in(text: &[u8]) -> Option<Step>
+    ensures { result ≡ digits_in 20 text.now }
 {
-    let high = run_at(line, offset, 16, 4);
-    if high.count != 4 {
-        return Step::Wrong;
-    }
-    let low = run_at(line, offset + 4, 16, 16);
-    if low.count == 16 {
-        Step::Words {
-            high: high.value,
-            low: low.value,
-            length: 20,
-        }
-    } else {
-        Step::Wrong
-    }
+    let high = word_in(text, 4)?;
+    let low = word_in(rest_of(text, 4), 16)?;
+    Some(Step::Words {
+        high,
+        low,
+        length: 20,
+    })
 }
 
 // The byte `p`.
-pub fn letter_at(line: &[u8], offset: usize, p: u8) -> Step
-    ensures { result ≡ letter_in p (drop offset line.now) }
+#[tactic(auto, using(crate::proofs::Fronts::letter_front))]
+fn letter_in(text: &[u8], p: u8) -> Option<Step>
+    ensures { result ≡ letter_in p text.now }
 {
-    if line.len() <= offset {
-        return Step::Wrong;
-    }
-    if line[offset] == p {
-        Step::Letter
+    if *text.first()? == p {
+        Some(Step::Letter)
     } else {
-        Step::Wrong
+        None
     }
 }
 
 // What the byte `p` of a form asks, where a block has `digits` digits.
-pub fn piece_at(line: &[u8], offset: usize, p: u8, digits: usize) -> Step
+pub fn piece_in(text: &[u8], p: u8, digits: usize) -> Option<Step>
     requires { digits ≤ 16 }
-    ensures { result ≡ piece_in (piece_of digits p) p (drop offset line.now) }
+    ensures { result ≡ piece_in (piece_of digits p) p text.now }
 {
     match p {
-        b'#' => decimal_at(line, offset, 4294967295),
-        b'%' => decimal_at(line, offset, 255),
-        b'&' => key_at(line, offset),
-        b'$' => hex_at(line, offset, 16),
-        b'*' => hex_at(line, offset, digits),
-        _ => letter_at(line, offset, p),
+        b'#' => decimal_in(text, 4294967295),
+        b'%' => decimal_in(text, 255),
+        b'&' => key_in(text),
+        b'$' => hex_in(text, 16),
+        b'*' => hex_in(text, digits),
+        _ => letter_in(text, p),
     }
 }
