@@ -2,13 +2,12 @@
 #![tactic(auto)]
 
 ghost use Rattle.std.specs.Prelude.{◌≡◌, ◌+◌, ◌-◌, ◌/◌, ◌^◌, ◌≤◌, ltb};
+ghost use Rattle.katan.specs.Checks.{outcome};
 ghost use Rattle.katan.specs.Sizes.{word_bits, word_bytes};
-ghost use Rattle.lanes.specs.Many.{many_outcome};
 ghost use Rattle.lanes_keystream.specs.Stream.{longest_message, stream_answer, stream_of};
 
 use crate::batch::combine_all;
-use katan::{KEY_BYTES, Refusal, RowAnswer, WORD_BITS};
-use lanes::Answer;
+use katan::{KEY_BYTES, Refusal, WORD_BITS};
 
 mod batch;
 
@@ -46,32 +45,31 @@ fn past_the_end(n: usize, start: u64, blocks: u64) -> bool
 }
 
 // Encrypts or decrypts a message, which is the same: each byte is combined with the stream's.
-pub fn keystream(variant: u8, key: &[u8], start: u64, message: &[u8], out: &mut [u8]) -> Answer
-    ensures result_value { many_outcome result ≡ stream_answer variant key.now start message.now out.old }
+pub fn keystream(
+    variant: u8,
+    key: &[u8],
+    start: u64,
+    message: &[u8],
+    out: &mut [u8],
+) -> Result<(), Refusal>
+    ensures result_value { outcome result ≡ stream_answer variant key.now start message.now out.old }
     ensures out_after { out.new ≡ stream_of variant key.now start message.now out.old }
 {
-    match katan_variants::row_of(variant) {
-        RowAnswer::Found(row) => {
-            if key.len() != KEY_BYTES {
-                return Answer::Refused(Refusal::BadLength);
-            }
-            if out.len() != message.len() {
-                return Answer::Refused(Refusal::BadLength);
-            }
-            if LONGEST_MESSAGE < message.len() {
-                return Answer::Refused(Refusal::BeyondEnd);
-            }
-            let size = row.n / 8;
-            let blocks = block_count(size, message.len());
-            if past_the_end(row.n, start, blocks as u64) {
-                return Answer::Refused(Refusal::BeyondEnd);
-            }
-            if katan_numbers::too_wide(row.n, start) {
-                return Answer::Refused(Refusal::BadBlock);
-            }
-            combine_all(variant, size, blocks, key, start, message, out);
-            Answer::Done
-        }
-        RowAnswer::Refused(r) => Answer::Refused(r),
+    let row = katan_variants::row_of(variant)?;
+    if key.len() != KEY_BYTES || out.len() != message.len() {
+        return Err(Refusal::BadLength);
     }
+    if LONGEST_MESSAGE < message.len() {
+        return Err(Refusal::BeyondEnd);
+    }
+    let size = row.n / 8;
+    let blocks = block_count(size, message.len());
+    if past_the_end(row.n, start, blocks as u64) {
+        return Err(Refusal::BeyondEnd);
+    }
+    if katan_numbers::too_wide(row.n, start) {
+        return Err(Refusal::BadBlock);
+    }
+    combine_all(variant, size, blocks, key, start, message, out);
+    Ok(())
 }
