@@ -2,9 +2,9 @@
 // then calls that are refused. A line for each batch and call, with all outputs in one number.
 #![tactic(auto)]
 
-ghost use Rattle.std.specs.Prelude.{◌*◌, ◌<◌, ◌≤◌, length};
+ghost use Rattle.std.specs.Prelude.{◌<◌, ◌≤◌};
 
-use katan_registers::Answer;
+use katan::Refusal;
 use lanes::Direction;
 use std::io;
 
@@ -18,9 +18,9 @@ fn next(x: u64) -> u64 {
 fn key_bytes(seed: u64) -> [u8; 640] {
     let mut bytes = [0u8; 640];
     let mut x = seed;
-    for i in 0..640 {
+    for byte in bytes.iter_mut() {
         x = next(x);
-        bytes[i] = ((x >> 33) % 256) as u8;
+        *byte = ((x >> 33) % 256) as u8;
     }
     bytes
 }
@@ -30,9 +30,9 @@ fn block_values(seed: u64, unused: usize) -> [u64; 64]
 {
     let mut blocks = [0u64; 64];
     let mut x = seed;
-    for i in 0..64 {
+    for block in blocks.iter_mut() {
         x = next(x);
-        blocks[i] = x >> unused;
+        *block = x >> unused;
     }
     blocks
 }
@@ -48,74 +48,24 @@ fn unused_bits(variant: u8) -> usize
     }
 }
 
-fn one_block(direction: Direction, variant: u8, key: &[u8], block: u64) -> Answer {
+fn one_block(direction: Direction, variant: u8, key: &[u8], block: u64) -> Result<u64, Refusal> {
     match direction {
         Direction::Encrypt => katan_cipher::encrypt(variant, key, block),
         Direction::Decrypt => katan_cipher::decrypt(variant, key, block),
     }
 }
 
-fn is_block(a: Answer, x: u64) -> bool {
-    match a {
-        Answer::Block(y) => x == y,
-        Answer::Refused(_) => false,
-    }
-}
-
-fn both(a: bool, b: bool) -> bool {
-    if a { b } else { false }
-}
-
-// Whether the first n results are those of one call for each block.
-fn agree(
-    direction: Direction,
-    variant: u8,
-    keys: &[u8],
-    blocks: &[u64],
-    out: &[u64],
-    n: usize,
-) -> bool
-    requires { (10 * n ≤ length keys.now) × (n ≤ length blocks.now) × (n ≤ length out.now) }
-{
-    let mut same = true;
-    for i in 0..n {
-        let at = 10 * i;
-        let end = at + 10;
-        let answer = one_block(direction, variant, &keys[at..end], blocks[i]);
-        same = both(same, is_block(answer, out[i]));
-    }
-    same
-}
-
-// A call on the first bytes, blocks and outputs, as many as is said.
-fn many(
-    direction: Direction,
-    variant: u8,
-    keys: &[u8],
-    bytes: usize,
-    blocks: &[u64],
-    count: usize,
-    out: &mut [u64],
-    results: usize,
-) -> lanes::Answer
-    requires { (bytes ≤ length keys.now) × (count ≤ length blocks.now) × (results ≤ length out.old) }
-{
-    lanes::many(
-        direction,
-        variant,
-        &keys[..bytes],
-        &blocks[..count],
-        &mut out[..results],
-    )
+// Whether the results are those of one call for each block.
+fn agree(direction: Direction, variant: u8, keys: &[u8], blocks: &[u64], out: &[u64]) -> bool {
+    keys.chunks_exact(10).zip(blocks).zip(out).all(|((key, block), x)| {
+        let alone = one_block(direction, variant, key, *block);
+        alone == Ok(*x)
+    })
 }
 
 // All outputs in one number, in their order.
 fn digest(out: &[u64]) -> u64 {
-    let mut h: u64 = 0;
-    for i in 0..out.len() {
-        h = ((h << 1) | (h >> 63)) ^ out[i];
-    }
-    h
+    out.iter().fold(0, |h, x| ((h << 1) | (h >> 63)) ^ *x)
 }
 
 fn print_digest(rt: &HostRuntime, out: &[u64]) -> io::Result<()> {
@@ -123,20 +73,10 @@ fn print_digest(rt: &HostRuntime, out: &[u64]) -> io::Result<()> {
     println!(rt; " {all:016x}")
 }
 
-fn print_direction(rt: &HostRuntime, direction: Direction) -> io::Result<()> {
+fn letter(direction: Direction) -> &'static str {
     match direction {
-        Direction::Encrypt => print!(rt; "e "),
-        Direction::Decrypt => print!(rt; "d "),
-    }
-}
-
-fn print_answer(rt: &HostRuntime, a: lanes::Answer) -> io::Result<()> {
-    match a {
-        lanes::Answer::Done => print!(rt; "done"),
-        lanes::Answer::Refused(r) => {
-            let number = katan_variants::refusal_number(r);
-            print!(rt; "refused {number}")
-        }
+        Direction::Encrypt => "e",
+        Direction::Decrypt => "d",
     }
 }
 
@@ -159,10 +99,16 @@ fn batch(rt: &HostRuntime, k: usize) -> io::Result<()>
     let keys = key_bytes(seed + 1);
     let blocks = block_values(seed + 1001, unused_bits(variant));
     let mut out = [0u64; 64];
-    let answer = many(direction, variant, &keys, 10 * n, &blocks, n, &mut out, n);
-    print_direction(rt, direction)?;
-    print!(rt; "{variant} {n}")?;
-    if !agree(direction, variant, &keys, &blocks, &out, n) {
+    let answer = lanes::many(
+        direction,
+        variant,
+        &keys[..10 * n],
+        &blocks[..n],
+        &mut out[..n],
+    );
+    let letter = letter(direction);
+    print!(rt; "{letter} {variant} {n}")?;
+    if answer.is_err() || !agree(direction, variant, &keys[..10 * n], &blocks[..n], &out[..n]) {
         print!(rt; " differs")?;
     }
     print_digest(rt, &out)
@@ -182,17 +128,17 @@ fn call(
     let keys = [0u8; 650];
     let blocks = [block; 65];
     let mut out = [7u64; 65];
-    let answer = many(
+    let answer = lanes::many(
         Direction::Encrypt,
         variant,
-        &keys,
-        bytes,
-        &blocks,
-        count,
-        &mut out,
-        results,
+        &keys[..bytes],
+        &blocks[..count],
+        &mut out[..results],
     );
-    print_answer(rt, answer)?;
+    match answer {
+        Ok(()) => print!(rt; "done")?,
+        Err(refusal) => print!(rt; "{refusal}")?,
+    }
     print_digest(rt, &out)
 }
 
