@@ -1,4 +1,4 @@
--- Each check of a join, by what the code found.
+-- Checks of a join, by what the code found.
 -- Assumes nothing.
 use mathlib.Core.Path.{◌≡◌, sym, ap, ap₂, ◌∙◌}
 use mathlib.Core.Bool.{Bool, true, false, ◌||◌}
@@ -26,8 +26,8 @@ ten_bytes ones zeros e =
     let n = neither _ _ e in (eqb-true (length ones) key_bytes (not-false _ n.0), eqb-true (length zeros) key_bytes (not-false _ n.1))
 
 -- and then the key read is the key given
-pub key-given : (ones zeros : List ℕ) (key : KnownKey) → key ≡ key_in ones zeros → (key_parts_check ones zeros).fault ≡ false → key_known key ≡ key_given ones zeros
-key-given ones zeros key e two =
+pub key_is : (ones zeros : List ℕ) (key : KnownKey) → key ≡ key_in ones zeros → (key_parts_check ones zeros).fault ≡ false → key_known key ≡ key_given ones zeros
+key_is ones zeros key e two =
     let ten = ten_bytes ones zeros two in
     ap₂ sheet
     (key_read ones key.ones ten.0 (ap (λ (k : KnownKey). k.ones) e))
@@ -47,15 +47,7 @@ module _ (v : ℕ) (block : KnownBits) (ones zeros : List ℕ) (other : KnownBit
   abbrev keys : List Check
   keys = key_parts_check ones zeros ∷ key_parts_check other_ones other_zeros ∷ []
 
-  pub first_length : (key_parts_check ones zeros).fault ≡ true → refused 2 ≡ answer
-  first_length h =
-      sym (fault_after (variant_check v ∷ []) (key_parts_check ones zeros) (key_parts_check other_ones other_zeros ∷ block_parts_check v block ∷ block_parts_check v other ∷ both ∷ []) _ (sound, tt) h)
-
   module _ (ten : (key_parts_check ones zeros).fault ≡ false) where
-    pub second_length : (key_parts_check other_ones other_zeros).fault ≡ true → refused 2 ≡ answer
-    second_length h =
-        sym (fault_after (variant_check v ∷ key_parts_check ones zeros ∷ []) (key_parts_check other_ones other_zeros) (block_parts_check v block ∷ block_parts_check v other ∷ both ∷ []) _ (sound, (ten, tt)) h)
-
     module _ (ten' : (key_parts_check other_ones other_zeros).fault ≡ false) where
       pub first_wide : (block_parts_check v block).fault ≡ true → refused 7 ≡ answer
       first_wide h = sym (fault_after (variant_check v ∷ keys) (block_parts_check v block) (block_parts_check v other ∷ both ∷ []) _ (sound, (ten, (ten', tt))) h)

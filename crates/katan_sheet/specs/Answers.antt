@@ -4,14 +4,11 @@ use Rattle.std.specs.Prelude.{ℕ, ◌||◌, List, [], ◌∷◌, take}
 use Rattle.katan.specs.Bit.{number_in}
 use Rattle.katan.specs.Key.{key_number, key_of}
 use Rattle.katan.specs.Sizes.{key_bytes}
-use Rattle.katan.specs.Checks.{number_of, Outcome, value, refused, Check, checked, variant_check, key_check, position_check, block_check}
+use Rattle.katan.specs.Checks.{Outcome, value, Check, checked, variant_check, key_check, position_check, block_check}
 use Rattle.katan_sheet.specs.Sheet.{smudged_at, joined, contradicts}
 use Rattle.katan_sheet.specs.declared.KnownBits.{KnownBits}
 use Rattle.katan_sheet.specs.declared.KnownKey.{KnownKey}
-use Rattle.katan_sheet.specs.declared.SmudgedAnswer.{SmudgedAnswer}
-use Rattle.katan_sheet.specs.declared.SmudgedAnswer.TheVariants.{Known, Refused}
-use Rattle.katan_sheet.specs.declared.JoinAnswer.{JoinAnswer}
-use Rattle.katan_sheet.specs.declared.JoinAnswer.TheVariants.{Joined, Refused as NotJoined}
+use Rattle.katan_sheet.specs.declared.Sheet.{Sheet}
 
 -- the two parts of a key in bytes
 abbrev pub key_given : (ones zeros : List ℕ) → KnownBits
@@ -41,10 +38,6 @@ smudged_checks v block key_ones key_zeros p =
 abbrev pub smudged_answer : (v : ℕ) → KnownBits → (key_ones key_zeros : List ℕ) → (p : ℕ) → Outcome KnownBits
 smudged_answer v block key_ones key_zeros p = checked (smudged_checks v block key_ones key_zeros p) (value (smudged_at v (key_given key_ones key_zeros) block p))
 
-abbrev pub smudged_outcome : SmudgedAnswer → Outcome KnownBits
-smudged_outcome (Known k) = value k
-smudged_outcome (Refused r) = refused (number_of r)
-
 -- ---- two sheets of one block
 
 -- 1, 2, 7, 16: on one sheet or between the two
@@ -63,6 +56,6 @@ join_answer v block key_ones key_zeros other other_key_ones other_key_zeros =
 abbrev pub key_known : KnownKey → KnownBits
 key_known k = record { ones = key_number k.ones; zeros = key_number k.zeros }
 
-abbrev pub join_outcome : JoinAnswer → Outcome (KnownBits × KnownBits)
-join_outcome (Joined s) = value (s.block, key_known s.key)
-join_outcome (NotJoined r) = refused (number_of r)
+-- a sheet's block and key
+abbrev pub sheet_known : Sheet → KnownBits × KnownBits
+sheet_known s = (s.block, key_known s.key)

@@ -4,11 +4,13 @@
 
 ghost use Rattle.std.specs.Prelude.{◌≡◌, ◌||◌, ◌^◌, leb};
 ghost use Rattle.katan.specs.Bit.{or};
+ghost use Rattle.katan.specs.Checks.{outcome_by};
 ghost use Rattle.katan.specs.Key.{key_number};
 ghost use Rattle.katan_sheet.specs.Sheet.{joined};
-ghost use Rattle.katan_sheet.specs.Answers.{key_in, key_known, key_parts_check, contradiction_check, join_outcome, join_answer};
+ghost use Rattle.katan_sheet.specs.Answers.{key_in, key_known, sheet_known, key_parts_check, contradiction_check, join_answer};
 
-use katan::{KEY_BYTES, Key, Refusal, RowAnswer};
+use katan::{KEY_BYTES, Key, Refusal};
+use std::ops::BitOr;
 
 // Bits of which some are unknown: those known as 1, and those known as 0.
 #[derive(Clone, Copy)]
@@ -31,51 +33,27 @@ pub struct Sheet {
     pub key: KnownKey,
 }
 
-// What a run answers: the bits known at a position, or the first fault found.
-#[derive(Clone, Copy)]
-pub enum SmudgedAnswer {
-    Known(KnownBits),
-    Refused(Refusal),
-}
-
-// What a join answers: what either of two sheets knows, or the first fault found.
-#[derive(Clone, Copy)]
-pub enum JoinAnswer {
-    Joined(Sheet),
-    Refused(Refusal),
-}
-
 // Check 2 of a key's two parts.
 pub fn bad_length(ones: &[u8], zeros: &[u8]) -> bool
     ensures { result ≡ (key_parts_check ones.now zeros.now).fault }
 {
-    if ones.len() != KEY_BYTES {
-        return true;
-    }
-    zeros.len() != KEY_BYTES
+    ones.len() != KEY_BYTES || zeros.len() != KEY_BYTES
 }
 
 // Check 7 of a block's two numbers.
 pub fn too_wide(n: usize, block: KnownBits) -> bool
     ensures { result ≡ leb (2 ^ n) block.ones || leb (2 ^ n) block.zeros }
 {
-    if katan_numbers::too_wide(n, block.ones) {
-        return true;
-    }
-    katan_numbers::too_wide(n, block.zeros)
+    katan_numbers::too_wide(n, block.ones) || katan_numbers::too_wide(n, block.zeros)
 }
 
 // Check 16 of a block and a key: a bit is known both as 0 and as 1.
 pub fn contradictory(block: KnownBits, key: KnownKey) -> bool
     ensures { result ≡ (contradiction_check (key_known key) block).fault }
 {
-    if block.ones & block.zeros != 0 {
-        return true;
-    }
-    if key.ones.low & key.zeros.low != 0 {
-        return true;
-    }
-    key.ones.high & key.zeros.high != 0
+    block.ones & block.zeros != 0
+        || key.ones.low & key.zeros.low != 0
+        || key.ones.high & key.zeros.high != 0
 }
 
 // A key from the first 10 bytes of each part.
@@ -89,12 +67,33 @@ pub fn key_of(ones: &[u8], zeros: &[u8]) -> KnownKey
 }
 
 // What either knows.
-fn join_bits(a: KnownBits, b: KnownBits) -> KnownBits
-    ensures { result ≡ joined a b }
-{
-    KnownBits {
-        ones: a.ones | b.ones,
-        zeros: a.zeros | b.zeros,
+impl BitOr<KnownBits> for KnownBits {
+    type Output = KnownBits;
+
+    ghost can_bitor = { λ a b. Unit {0} };
+
+    ghost bitor_gives = { λ a b r. r ≡ joined a b };
+
+    fn bitor(self, other: KnownBits) -> KnownBits {
+        KnownBits {
+            ones: self.ones | other.ones,
+            zeros: self.zeros | other.zeros,
+        }
+    }
+}
+
+impl BitOr<KnownKey> for KnownKey {
+    type Output = KnownKey;
+
+    ghost can_bitor = { λ a b. Unit {0} };
+
+    ghost bitor_gives = { λ a b r. key_known r ≡ joined (key_known a) (key_known b) };
+
+    fn bitor(self, other: KnownKey) -> KnownKey {
+        KnownKey {
+            ones: join_part(self.ones, other.ones),
+            zeros: join_part(self.zeros, other.zeros),
+        }
     }
 }
 
@@ -107,15 +106,6 @@ fn join_part(a: Key, b: Key) -> Key
     }
 }
 
-fn join_key(a: KnownKey, b: KnownKey) -> KnownKey
-    ensures { key_known result ≡ joined (key_known a) (key_known b) }
-{
-    KnownKey {
-        ones: join_part(a.ones, b.ones),
-        zeros: join_part(a.zeros, b.zeros),
-    }
-}
-
 // What either of two sheets of one block knows, of the block and of the key.
 pub fn join(
     variant: u8,
@@ -125,33 +115,20 @@ pub fn join(
     other: KnownBits,
     other_key_ones: &[u8],
     other_key_zeros: &[u8],
-) -> JoinAnswer
-    ensures { join_outcome result ≡ join_answer variant block key_ones.now key_zeros.now other other_key_ones.now other_key_zeros.now }
+) -> Result<Sheet, Refusal>
+    ensures { outcome_by sheet_known result ≡ join_answer variant block key_ones.now key_zeros.now other other_key_ones.now other_key_zeros.now }
 {
-    match katan_variants::row_of(variant) {
-        RowAnswer::Found(row) => {
-            if bad_length(key_ones, key_zeros) {
-                return JoinAnswer::Refused(Refusal::BadLength);
-            }
-            if bad_length(other_key_ones, other_key_zeros) {
-                return JoinAnswer::Refused(Refusal::BadLength);
-            }
-            if too_wide(row.n, block) {
-                return JoinAnswer::Refused(Refusal::BadBlock);
-            }
-            if too_wide(row.n, other) {
-                return JoinAnswer::Refused(Refusal::BadBlock);
-            }
-            let known = join_bits(block, other);
-            let key = join_key(
-                key_of(key_ones, key_zeros),
-                key_of(other_key_ones, other_key_zeros),
-            );
-            if contradictory(known, key) {
-                return JoinAnswer::Refused(Refusal::Contradiction);
-            }
-            JoinAnswer::Joined(Sheet { block: known, key })
-        }
-        RowAnswer::Refused(r) => JoinAnswer::Refused(r),
+    let row = katan_variants::row_of(variant)?;
+    if bad_length(key_ones, key_zeros) || bad_length(other_key_ones, other_key_zeros) {
+        return Err(Refusal::BadLength);
     }
+    if too_wide(row.n, block) || too_wide(row.n, other) {
+        return Err(Refusal::BadBlock);
+    }
+    let known = block | other;
+    let key = key_of(key_ones, key_zeros) | key_of(other_key_ones, other_key_zeros);
+    if contradictory(known, key) {
+        return Err(Refusal::Contradiction);
+    }
+    Ok(Sheet { block: known, key })
 }

@@ -1,3 +1,4 @@
+pub mod Shifts
 pub mod Places
 pub mod Sources
 pub mod Runs

@@ -33,10 +33,6 @@ pub clock_fits : (v : Row) (u : KnownInput) (s : KnownRegisters) → RegistersFi
 unfolding entered_words
 clock_fits v u s = record { l1_fits = enter_fits v.len1 s.l1 _; l2_fits = enter_fits v.len2 s.l2 _ }
 
-pub clocks_fit : (v : Row) (u : KnownInput) (c : ℕ) (s : KnownRegisters) → RegistersFit v s → RegistersFit v (clocks_words v u c s)
-clocks_fit v u zero s f = f
-clocks_fit v u (suc c) s f = clock_fits v u (clocks_words v u c s)
-
 -- ---- single bits: the three values as two bits
 
 -- whether it is known

@@ -7,6 +7,7 @@ use lib.ListN.{length}
 use Rattle.katan.specs.Counter.{rounds}
 use Rattle.katan.specs.Key.{key_length}
 use Rattle.katan.specs.Variant.{row_of}
+use Rattle.katan.specs.declared.Row.{Row}
 use Rattle.katan.proofs.Undo.{sound}
 use Rattle.katan_sheet.specs.Three.{Three}
 use Rattle.katan_sheet.specs.Cells.{Cells}
@@ -18,8 +19,8 @@ use Rattle.katan_smudged.proofs.Places.{clocks_hold}
 use Rattle.katan_smudged.proofs.Sources.{ir_reads, ka_reads, kb_reads}
 
 -- what a round leaves
-abbrev pub After : (v clocks : ℕ) → KnownInput → Running → Running → Type 0
-After v clocks u h t = (t.registers ≡ clocks_words (row_of v) u clocks h.registers) × Follows v h.source t.source
+abbrev pub After : Row → (v : ℕ) → KnownInput → Running → Running → Type 0
+After row v u h t = (t.registers ≡ clocks_words row u row.clocks h.registers) × Follows v h.source t.source
 
 -- what h holds, p rounds on from registers that hold c
 pub record Reached (v : ℕ) (key : List Three) (p : ℕ) (c : Cells Three) (h : Running) : Type 0 where
@@ -28,7 +29,7 @@ pub record Reached (v : ℕ) (key : List Three) (p : ℕ) (c : Cells Three) (h :
 
 module _ (v : ℕ) (counters numbers : List ℕ) (ts : Tables counters numbers) (key : List Three) (l : length key ≡ key_length) where
   -- LAW: a round on
-  pub round_on : (p : ℕ) → p < rounds → (c : Cells Three) (h t : Running) → Reached v key p c h → After v (row_of v).clocks (input_words v counters numbers p h.source) h t → Reached v key (suc p) c t
+  pub round_on : (p : ℕ) → p < rounds → (c : Cells Three) (h t : Running) → Reached v key p c h → After (row_of v) v (input_words v counters numbers p h.source) h t → Reached v key (suc p) c t
   round_on p q c h t r e =
       let w = h.source in
       let s = r.source_holds in

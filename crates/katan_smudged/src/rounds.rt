@@ -7,23 +7,18 @@ ghost use Rattle.katan_sheet.specs.Three.{Three};
 ghost use Rattle.katan_sheet.specs.Cells.{Cells};
 ghost use Rattle.katan_sheet.specs.Sheet.{smudged_at, contradicts};
 ghost use Rattle.katan_sheet.specs.Answers.{key_known};
-ghost use Rattle.katan_smudged.specs.inner.Words.{clocks_words, registers_words, block_words, Fit, RegistersFit, Tables, source_bit, input_from, input_words, source_bits, Follows, Holds, HoldsCells, source_at, run_three};
+ghost use Rattle.katan_smudged.specs.inner.Words.{clocks_words, registers_words, block_words, Fit, source_bit, input_from, input_words, source_bits, Follows, Runs};
 
-use crate::words::{KnownInput, KnownRegisters, KnownSource, clocks_of, following};
+use crate::words::{KnownInput, KnownRegisters, KnownSource, clocks, following};
 use katan::{Registers, RoundPosition, Row};
 use katan_sheet::{KnownBits, KnownKey};
+use katan_variants::{Bits32, Bits48, Bits64, Tables, Width};
 
 // The registers at a position, and its source.
 #[derive(Clone, Copy)]
 struct Running {
     registers: KnownRegisters,
     source: KnownSource,
-}
-
-fn wide(x: u8) -> u64
-    ensures { result ≡ x }
-{
-    x as u64
 }
 
 fn source_bit(w: KnownSource, i: usize) -> KnownBits
@@ -39,7 +34,7 @@ fn source_bit(w: KnownSource, i: usize) -> KnownBits
 fn input_from(counter: u8, w: KnownSource, ka: usize, kb: usize) -> KnownInput
     ensures { result ≡ input_from counter w ka kb }
 {
-    let ir = (wide(counter) >> 7) % 2;
+    let ir = (u64::from(counter) >> 7) % 2;
     KnownInput {
         ir: KnownBits {
             ones: ir,
@@ -51,22 +46,17 @@ fn input_from(counter: u8, w: KnownSource, ka: usize, kb: usize) -> KnownInput
 }
 
 // The input of round r. KATAN's key bits are the two lowest of the window; KTANTAN's table names them.
-fn input_of(
-    variant: u8,
-    counters: &[u8; katan::ROUND_COUNT],
-    numbers: &[u8; katan::ROUND_KEYS],
-    r: usize,
-    w: KnownSource,
-) -> KnownInput
+fn input_of(variant: u8, tables: &Tables, r: usize, w: KnownSource) -> KnownInput
     requires { r < rounds }
-    ensures { result ≡ input_words variant counters.now numbers.now r w }
+    ensures { result ≡ input_words variant tables.now.counters tables.now.numbers r w }
 {
+    let counter = tables.counters[r];
     if katan_variants::is_katan(variant) {
-        return input_from(counters[r], w, 0, 1);
+        return input_from(counter, w, 0, 1);
     }
-    let ka = katan_numbers::index_of(numbers[2 * r]);
-    let kb = katan_numbers::index_of(numbers[2 * r + 1]);
-    input_from(counters[r], w, ka, kb)
+    let ka = usize::from(tables.numbers[2 * r]);
+    let kb = usize::from(tables.numbers[2 * r + 1]);
+    input_from(counter, w, ka, kb)
 }
 
 // The source of the next position: a KATAN's window moves on.
@@ -91,48 +81,41 @@ fn next_source(variant: u8, w: KnownSource) -> KnownSource
     w
 }
 
-fn round_of(
-    variant: u8,
-    clocks: u32,
-    counters: &[u8; katan::ROUND_COUNT],
-    numbers: &[u8; katan::ROUND_KEYS],
-    r: usize,
-    h: Running,
-) -> Running
-    requires { (1 ≤ variant) × (variant ≤ 6) × (r < rounds) × RegistersFit (row_of variant) h.registers }
-    ensures { (result.registers ≡ clocks_words (row_of variant) (input_words variant counters.now numbers.now r h.source) clocks h.registers) × Follows variant h.source result.source }
+// A round.
+fn round_of<W: Width>(variant: u8, tables: &Tables, r: usize, h: Running) -> Running
+    requires { r < rounds }
+    ensures { (result.registers ≡ clocks_words W.Width.row (input_words variant tables.now.counters tables.now.numbers r h.source) (W.Width.row).clocks h.registers) × Follows variant h.source result.source }
 {
-    let w = h.source;
-    let s = h.registers;
-    let u = input_of(variant, counters, numbers, r, w);
+    let u = input_of(variant, tables, r, h.source);
     Running {
-        registers: clocks_of(variant, clocks, u, s),
-        source: next_source(variant, w),
+        registers: clocks::<W>(u, h.registers),
+        source: next_source(variant, h.source),
     }
 }
 
 // The rounds from position 0 to a later one: what the registers hold then.
-fn run_of(
-    variant: u8,
-    clocks: u32,
-    counters: &[u8; katan::ROUND_COUNT],
-    numbers: &[u8; katan::ROUND_KEYS],
-    w: KnownSource,
-    to: RoundPosition,
-    s: KnownRegisters,
-) -> KnownRegisters
-    requires { (1 ≤ variant) × (variant ≤ 6) × (clocks ≡ (row_of variant).clocks) × Tables counters.now numbers.now × RegistersFit (row_of variant) s × (to.0 ≤ rounds) }
-    ensures { (key : List Three) (c : Cells Three) → length key ≡ key_length → Holds key_length (source_bits w) (source_at variant key 0) → HoldsCells (row_of variant) s c → HoldsCells (row_of variant) result (run_three variant key to.0 c) }
+fn run_at<W: Width>(variant: u8, start: Running, to: RoundPosition) -> KnownRegisters
+    requires { (W.Width.row ≡ row_of variant) × (to.0 ≤ rounds) }
+    ensures { Runs variant start.registers start.source to.0 result }
 {
-    let count = to.0 as usize;
-    let mut h = Running {
-        registers: s,
-        source: w,
-    };
-    for r in 0..count {
-        h = round_of(variant, clocks, counters, numbers, r, h);
+    let tables = Tables::new();
+    let mut h = start;
+    for r in 0..usize::from(to.0) {
+        h = round_of::<W>(variant, &tables, r, h);
     }
     h.registers
+}
+
+// The same at a variant's width.
+fn run_of(variant: u8, start: Running, to: RoundPosition) -> KnownRegisters
+    requires { to.0 ≤ rounds }
+    ensures { Runs variant start.registers start.source to.0 result }
+{
+    match variant {
+        2 | 5 => run_at::<Bits48>(variant, start, to),
+        3 | 6 => run_at::<Bits64>(variant, start, to),
+        _ => run_at::<Bits32>(variant, start, to),
+    }
 }
 
 fn registers_of(row: Row, block: KnownBits) -> KnownRegisters
@@ -187,16 +170,12 @@ pub fn smudged_to(
     key: KnownKey,
     to: RoundPosition,
 ) -> KnownBits
-    requires { (1 ≤ variant) × (variant ≤ 6) × (row ≡ row_of variant) × (to.0 ≤ rounds) × Fit (width_of variant) block × (contradicts block ≡ false) × (contradicts (key_known key) ≡ false) }
+    requires { (row ≡ row_of variant) × (to.0 ≤ rounds) × Fit (width_of variant) block × (contradicts block ≡ false) × (contradicts (key_known key) ≡ false) }
     ensures { result ≡ smudged_at variant (key_known key) block to.0 }
 {
-    let counters = katan_variants::counters();
-    let numbers = katan_variants::key_bit_numbers();
-    let source = source_of(key);
-    let s = registers_of(row, block);
-    let clocks = row.clocks;
-    block_of(
-        row,
-        run_of(variant, clocks, &counters, &numbers, source, to, s),
-    )
+    let start = Running {
+        registers: registers_of(row, block),
+        source: source_of(key),
+    };
+    block_of(row, run_of(variant, start, to))
 }

@@ -1,14 +1,13 @@
 // Bits that may be unknown, in two words: those known as 1, and those known as 0. Rounds over them, for any row of the variants' table:
 // a clock is some operations on words, with the taps' bits lowest.
-ghost use Rattle.std.specs.Prelude.{◌≡◌, ◌<◌, ◌≤◌, ◌%◌, ◌^◌};
-ghost use Rattle.katan.specs.Variant.{row32, row48, row64, row_of};
+ghost use Rattle.std.specs.Prelude.{◌≡◌, ◌<◌, ◌%◌};
 ghost use Rattle.katan.specs.Clock.{shift_in};
-ghost use Rattle.katan.specs.inner.Within.{Sound};
-ghost use Rattle.katan_smudged.specs.inner.Words.{term as term_of, plus as plus_of, settled as settled_of, times as times_of, from, fa_words, fb_words, enter as enter_of, entered_words, clock_words, clocks_words, Fit, RegistersFit, following as following_of};
+ghost use Rattle.katan_smudged.specs.inner.Words.{term as term_of, plus, settled as settled_of, times as times_of, from, fa_words, fb_words, enter as enter_of, entered_words, clock_words, clocks_words, following as following_of};
 
-use katan::Row;
 use katan_keys::Window;
 use katan_sheet::KnownBits;
+use katan_variants::Width;
+use std::ops::BitXor;
 
 // A sum of bits: it is known where each of its terms is, and its value counts only there.
 #[derive(Clone, Copy)]
@@ -48,12 +47,18 @@ fn term(a: KnownBits) -> Sum
     }
 }
 
-fn plus(a: Sum, b: Sum) -> Sum
-    ensures { result ≡ plus_of a b }
-{
-    Sum {
-        known: a.known & b.known,
-        value: a.value ^ b.value,
+impl BitXor<Sum> for Sum {
+    type Output = Sum;
+
+    ghost can_bitxor = { λ a b. Unit {0} };
+
+    ghost bitxor_gives = { λ a b r. r ≡ plus a b };
+
+    fn bitxor(self, other: Sum) -> Sum {
+        Sum {
+            known: self.known & other.known,
+            value: self.value ^ other.value,
+        }
     }
 }
 
@@ -88,45 +93,35 @@ fn at(l: KnownBits, i: usize) -> KnownBits
     }
 }
 
-// The five terms of fa or fb.
-fn sum_of(a: Sum, b: Sum, c: Sum, d: Sum, e: Sum) -> KnownBits
-    ensures { result ≡ settled_of (plus_of a (plus_of (plus_of (plus_of b c) d) e)) }
+// fa and fb at a width. Its row is a constant there, so its taps are compiled in.
+fn fa_of<W: Width>(l: KnownBits, ir: KnownBits, ka: KnownBits) -> KnownBits
+    ensures { result ≡ fa_words W.Width.row l ir ka }
 {
-    settled(plus(a, plus(plus(plus(b, c), d), e)))
+    let row = W::row();
+    let x34 = product(at(l, row.x3), at(l, row.x4));
+    let x5 = product(at(l, row.x5), ir);
+    settled(term(at(l, row.x1)) ^ (term(at(l, row.x2)) ^ x34 ^ x5 ^ term(ka)))
 }
 
-fn fa_of(v: Row, l: KnownBits, ir: KnownBits, ka: KnownBits) -> KnownBits
-    requires { Sound v }
-    ensures { result ≡ fa_words v l ir ka }
+fn fb_of<W: Width>(l: KnownBits, kb: KnownBits) -> KnownBits
+    ensures { result ≡ fb_words W.Width.row l kb }
 {
-    let x1 = term(at(l, v.x1));
-    let x2 = term(at(l, v.x2));
-    let x34 = product(at(l, v.x3), at(l, v.x4));
-    let x5 = product(at(l, v.x5), ir);
-    sum_of(x1, x2, x34, x5, term(ka))
-}
-
-fn fb_of(v: Row, l: KnownBits, kb: KnownBits) -> KnownBits
-    requires { Sound v }
-    ensures { result ≡ fb_words v l kb }
-{
-    let y1 = term(at(l, v.y1));
-    let y2 = term(at(l, v.y2));
-    let y34 = product(at(l, v.y3), at(l, v.y4));
-    let y56 = product(at(l, v.y5), at(l, v.y6));
-    sum_of(y1, y2, y34, y56, term(kb))
+    let row = W::row();
+    let y34 = product(at(l, row.y3), at(l, row.y4));
+    let y56 = product(at(l, row.y5), at(l, row.y6));
+    settled(term(at(l, row.y1)) ^ (term(at(l, row.y2)) ^ y34 ^ y56 ^ term(kb)))
 }
 
 // The lowest bit of b enters a register of w bits: here of one word.
 fn shift_in(w: usize, l: u64, b: u64) -> u64
-    requires { (w < 64) × (l < 2 ^ w) }
+    requires { w < 64 }
     ensures { result ≡ shift_in w l (b % 2) }
 {
-    (l * 2 + b % 2) % (1 << w)
+    ((l << 1) + b % 2) % (1 << w)
 }
 
 fn enter(w: usize, l: KnownBits, b: KnownBits) -> KnownBits
-    requires { (w < 64) × Fit w l }
+    requires { w < 64 }
     ensures { result ≡ enter_of w l b }
 {
     KnownBits {
@@ -135,68 +130,24 @@ fn enter(w: usize, l: KnownBits, b: KnownBits) -> KnownBits
     }
 }
 
-// fb enters L1, fa enters L2.
-fn entered(v: Row, s: KnownRegisters, fa: KnownBits, fb: KnownBits) -> KnownRegisters
-    requires { Sound v × RegistersFit v s }
-    ensures { result ≡ entered_words v s fa fb }
+// A clock: fb enters L1, fa enters L2.
+fn clock<W: Width>(u: KnownInput, s: KnownRegisters) -> KnownRegisters
+    ensures { result ≡ clock_words W.Width.row u s }
 {
+    let row = W::row();
     KnownRegisters {
-        l1: enter(v.len1, s.l1, fb),
-        l2: enter(v.len2, s.l2, fa),
-    }
-}
-
-// A clock for each width, with the row a constant: so its taps are compiled in. Written out, since LLVM inlines no function as large as a
-// clock in three places.
-fn clock_32(u: KnownInput, s: KnownRegisters) -> KnownRegisters
-    requires { RegistersFit row32 s }
-    ensures { result ≡ clock_words row32 u s }
-{
-    let row = katan_variants::row_32();
-    let fa = fa_of(row, s.l1, u.ir, u.ka);
-    let fb = fb_of(row, s.l2, u.kb);
-    entered(row, s, fa, fb)
-}
-
-fn clock_48(u: KnownInput, s: KnownRegisters) -> KnownRegisters
-    requires { RegistersFit row48 s }
-    ensures { result ≡ clock_words row48 u s }
-{
-    let row = katan_variants::row_48();
-    let fa = fa_of(row, s.l1, u.ir, u.ka);
-    let fb = fb_of(row, s.l2, u.kb);
-    entered(row, s, fa, fb)
-}
-
-fn clock_64(u: KnownInput, s: KnownRegisters) -> KnownRegisters
-    requires { RegistersFit row64 s }
-    ensures { result ≡ clock_words row64 u s }
-{
-    let row = katan_variants::row_64();
-    let fa = fa_of(row, s.l1, u.ir, u.ka);
-    let fb = fb_of(row, s.l2, u.kb);
-    entered(row, s, fa, fb)
-}
-
-fn clock_of(variant: u8, u: KnownInput, s: KnownRegisters) -> KnownRegisters
-    requires { (1 ≤ variant) × (variant ≤ 6) × RegistersFit (row_of variant) s }
-    ensures { result ≡ clock_words (row_of variant) u s }
-{
-    match variant {
-        2 | 5 => clock_48(u, s),
-        3 | 6 => clock_64(u, s),
-        _ => clock_32(u, s),
+        l1: enter(row.len1, s.l1, fb_of::<W>(s.l2, u.kb)),
+        l2: enter(row.len2, s.l2, fa_of::<W>(s.l1, u.ir, u.ka)),
     }
 }
 
 // The clocks of a round.
-pub fn clocks_of(variant: u8, clocks: u32, u: KnownInput, s: KnownRegisters) -> KnownRegisters
-    requires { (1 ≤ variant) × (variant ≤ 6) × RegistersFit (row_of variant) s }
-    ensures { result ≡ clocks_words (row_of variant) u clocks s }
+pub fn clocks<W: Width>(u: KnownInput, s: KnownRegisters) -> KnownRegisters
+    ensures { result ≡ clocks_words W.Width.row u (W.Width.row).clocks s }
 {
     let mut t = s;
-    for _ in 0..clocks {
-        t = clock_of(variant, u, t);
+    for _ in 0..W::row().clocks {
+        t = clock::<W>(u, t);
     }
     t
 }
@@ -209,5 +160,5 @@ pub fn following(low: KnownBits, high: KnownBits) -> KnownBits
     let k61 = term(at(low, 19));
     let k50 = term(at(low, 30));
     let k13 = term(at(high, 3));
-    settled(plus(plus(plus(k80, k61), k50), k13))
+    settled(k80 ^ k61 ^ k50 ^ k13)
 }

@@ -6,7 +6,7 @@ use Rattle.katan.specs.Bit.{bit, xor, and, or, pick, tabulate}
 use Rattle.katan.specs.Clock.{shift_in, block, registers}
 use Rattle.katan.specs.Counter.{counter, ir_of, rounds}
 use Rattle.katan.specs.Key.{key_length, key_bit_number, k_at, round_keys}
-use Rattle.katan.specs.Variant.{is_katan}
+use Rattle.katan.specs.Variant.{is_katan, row_of}
 use Rattle.katan.specs.declared.Row.{Row}
 use Rattle.katan_keys.specs.Window.{window_number, slid}
 use Rattle.katan_sheet.specs.Three.{Three, is0, xor_three, and_three, known}
@@ -158,3 +158,8 @@ Follows v w r = (key : List Three) (p : ℕ) → length key ≡ key_length → H
 -- the rounds 0 to p - 1, with this key
 abbrev pub run_three : ℕ → List Three → ℕ → Cells Three → Cells Three
 run_three v key p c = run_cells xor_three and_three known v (round_keys xor_three is0 v key) p c
+
+-- r is what the registers s hold at position p, from position 0 on, of any bits that s and the source w hold
+abbrev pub Runs : ℕ → KnownRegisters → KnownSource → ℕ → KnownRegisters → Type 0
+Runs v s w p r =
+    (key : List Three) (c : Cells Three) → length key ≡ key_length → Holds key_length (source_bits w) (source_at v key 0) → HoldsCells (row_of v) s c → HoldsCells (row_of v) r (run_three v key p c)

@@ -7,26 +7,19 @@ use Rattle.katan_sheet.specs.Cells.{cells}
 use Rattle.katan_sheet.specs.Sheet.{bits_given}
 use Rattle.katan_sheet.specs.Answers.{key_known}
 use Rattle.katan_smudged.specs.inner.Words.{registers_words, block_words}
-use Rattle.katan_smudged.proofs.Loads.{length-given, loaded_fits, loaded_holds, key_holds, result_is}
+use Rattle.katan_smudged.proofs.Loads.{length-given, loaded_holds, key_holds, result_is}
 use Rattle.katan_smudged.proofs.rounds.smudged_to.Goals as goal
-
-pub run_of-requires : goal.run_of-requires
-run_of-requires c =
-    let a = c.args in
-    let v = a.variant in
-    let e = c.registers_of-s.ensures ∙ ap (λ (r : Row). registers_words r a.block) c.requires.2 in
-    (c.requires.0, c.requires.1, ap (λ (r : Row). r.clocks) c.requires.2, (c.counters-counters.ensures, c.key_bit_numbers-numbers.ensures), rw e (loaded_fits (row_of v) (sound v) a.block c.requires.4), c.requires.3)
 
 pub returns : goal.returns
 returns c =
     let a = c.args in
     let v = a.variant in
     let key = key_known a.key in
-    let w = c.source_of-source.ensures in
-    let s = c.registers_of-s.ensures ∙ ap (λ (r : Row). registers_words r a.block) c.requires.2 in
+    let w = c.source_of.ensures in
+    let s = c.registers_of.ensures ∙ ap (λ (r : Row). registers_words r a.block) c.requires.0 in
     c.block_of.ensures
-    ∙ ap (λ (r : Row). block_words r c.run_of.result) c.requires.2
+    ∙ ap (λ (r : Row). block_words r c.run_of.result) c.requires.0
     ∙ result_is v key a.block a.to.0 c.run_of.result
     (c.run_of.ensures (bits_given key_length key) (cells (row_of v) (bits_given (width_of v) a.block)) (length-given key_length key)
-    (rw w.0 (key_holds v key (rw w.0 at w.1) c.requires.6))
-    (rw s (loaded_holds (row_of v) (sound v) a.block c.requires.4 c.requires.5)))
+    (rw w.0 (key_holds v key (rw w.0 at w.1) c.requires.4))
+    (rw s (loaded_holds (row_of v) (sound v) a.block c.requires.2 c.requires.3)))

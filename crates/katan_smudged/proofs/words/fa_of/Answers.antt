@@ -3,4 +3,4 @@ use Rattle.katan_smudged.proofs.words.fa_of.Goals as goal
 
 pub returns : goal.returns
 unfolding fa_words
-returns c = cc
+returns g c = cc

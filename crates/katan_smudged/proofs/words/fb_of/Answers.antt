@@ -3,4 +3,4 @@ use Rattle.katan_smudged.proofs.words.fb_of.Goals as goal
 
 pub returns : goal.returns
 unfolding fb_words
-returns c = cc c.at.ensures
+returns g c = cc

@@ -1,6 +1,6 @@
 use Rattle.katan_smudged.specs.inner.Words.{entered_words}
-use Rattle.katan_smudged.proofs.words.entered.Goals as goal
+use Rattle.katan_smudged.proofs.words.clock.Goals as goal
 
 pub returns : goal.returns
 unfolding entered_words
-returns c = cc
+returns g c = cc
