@@ -10,7 +10,7 @@ use Rattle.script_command.specs.Written.{line_of}
 use Rattle.script_command.specs.Answer.{command_answer}
 use Rattle.script_form.specs.Form.{block_digits}
 use Rattle.script_form.specs.scanner.Scan.{value_of, run_in, decimal_in, digits_in, letter_in, push, advance, scan, whole}
-use Rattle.script_command.specs.scanner.Reading.{command_in, kind_in, numbered, opening_in, bench_in, read_in, load_in, forward_in, back_in, clear_in, command_of}
+use Rattle.script_command.specs.scanner.Reading.{command_in, record_in, bench_in, read_in, load_in, move_in, clear_in}
 use Rattle.script_command.specs.declared.Command.{Command}
 use Rattle.script_command.specs.declared.Command.TheVariants.{Bench, Read, Load, Forward, Back, Clear}
 
@@ -38,7 +38,7 @@ pub taken : Answers 0 (bytes "(bench 1)") (value (Bench 1))
     × Answers 6 (bytes "(4294967295 (back (lanes 000000000000000a) 255))") (value (Back 4294967295 10 255))
     × Answers 6 (bytes "(10 (clear (lanes 0000000000000001)))") (value (Clear 10 1))
     × Answers 1 (bytes "(read 0)") (value (Read 0))
-unfolding command_answer value_of run_in decimal_in digits_in letter_in push advance scan whole command_in kind_in numbered opening_in bench_in read_in load_in forward_in back_in clear_in command_of
+unfolding command_answer value_of run_in decimal_in digits_in letter_in push advance scan whole command_in record_in bench_in read_in load_in move_in clear_in
 taken = (refl, refl, refl, refl, refl, refl, refl)
 
 pub broken : Answers 1 (bytes "") (refused 13)
@@ -52,5 +52,5 @@ pub broken : Answers 1 (bytes "") (refused 13)
     × Answers 1 (bytes "(1 (clear (lanes 000000000000000A)))") (refused 13)
     × Answers 1 (bytes "(1 (clear (lanes 000000000000001)))") (refused 13)
     × Answers 2 (bytes "(1 (load 0 0 (key ffffffffffffffffffff) (block 00000000)))") (refused 13)
-unfolding command_answer value_of run_in decimal_in digits_in letter_in push advance scan whole command_in kind_in numbered opening_in bench_in read_in load_in forward_in back_in clear_in command_of
+unfolding command_answer value_of run_in decimal_in digits_in letter_in push advance scan whole command_in record_in bench_in read_in load_in move_in clear_in
 broken = (refl, refl, refl, refl, refl, refl, refl, refl, refl, refl, refl)

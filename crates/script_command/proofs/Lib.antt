@@ -1,3 +1,3 @@
-mod Openings
+mod Fits
 pub mod Exact
 pub mod Examples

@@ -4,11 +4,9 @@
 ghost use Rattle.std.specs.Prelude.{◌≡◌};
 ghost use Rattle.script_command.specs.Answer.{line_outcome, command_answer};
 
-use crate::reader::{command, opening, reader_at};
 use katan::Key;
 
 mod lines;
-mod reader;
 
 // How many bytes a line has at most, without its line feed.
 pub const LINE_LENGTH: usize = 120;
@@ -45,17 +43,10 @@ pub enum Command {
     },
 }
 
-// What a line is taken for.
-#[derive(Clone, Copy)]
-pub enum Line {
-    Taken(Command),
-    Broken,
-}
-
 // The command that a line is written for, on an open bench of a variant; 0 is the variant where none is open.
-pub fn command_in(variant: u8, line: &[u8]) -> Line
+#[tactic(auto, unfolding(crate::specs::Answer::command_answer))]
+pub fn command_in(variant: u8, line: &[u8]) -> Option<Command>
     ensures { line_outcome result ≡ command_answer variant line.now }
 {
-    let opened = opening(reader_at(line, 0), variant);
-    command(reader_at(line, opened.offset), opened, variant)
+    lines::command_in(variant, line)
 }
