@@ -4,7 +4,7 @@ use mathlib.Core.Path.{◌≡◌, refl, sym, ap, ap₂, subst, ◌∙◌}
 use Prim.Native.Nat.{ℕ, ◌+◌, ◌-◌, ◌*◌, ◌/◌, ◌^◌, ◌<◌, ◌≤◌}
 use native.Mathlib.Nat.{div-le_self, pow-le-pow_right}
 use native.Mathlib.Omega.{arith}
-use borrow.Author.Tests.{lt-ltb, le-ltb}
+use borrow.Author.Tests.{lt-ltb}
 use Rattle.katan.specs.Counter.{rounds}
 use Rattle.katan.specs.Clock.{fa, fb, registers, input_of}
 use Rattle.katan.specs.Key.{key_number}
@@ -31,15 +31,6 @@ row_sound v row e = subst (λ (x : Row). Sound x) (sym e) (sound v)
 pub in_block : (row : Row) → Sound row → (i t : ℕ) → i ≤ row.x1 → row.len2 + (i - t) < 2 ^ 64
 in_block row s i t h = omega (arith, s.top1, s.len1_fits, s.len2_fits)
 
--- ---- the bit at a place: one that entered, or one of the block
-
-module _ (entered : ℕ → Traced) (l t i : ℕ) (a r : Traced) (e : a ≡ r) where
-  pub came_in : (s : ℕ) → i < t → s ≡ t - 1 - i → r ≡ entered s → a ≡ place_at entered l t i
-  came_in s h q g = rw (lt-ltb i t h) (e ∙ g ∙ ap entered q)
-
-  pub was_there : t ≤ i → r ≡ block_bit l (i - t) → a ≡ place_at entered l t i
-  was_there h g = rw (le-ltb i t h) (e ∙ g)
-
 -- the block's bits by their number in the block
 module _ (row : Row) (x j : ℕ) where
   pub of_l1 : block_bit x (row.len2 + j) ≡ block_bit (registers row x).l1 j
@@ -61,20 +52,20 @@ module _ (run : Run) (clock : ClockNumber) where
   pub few2 : (i : ℕ) (a : Traced) → a ≡ l2_at i → a.count ≤ 6 ^ clock.0
   few2 i a e = rw e (place_few _ _ clock.0 (fa_at_most run.variant (key_number run.key) run.block) i)
 
-  module _ (e : run.row ≡ row_of run.variant) (h : clock.0 ≤ last_clock) (u : RoundInput) (p : ℕ) (q : p ≡ clock.0 / run.row.clocks) (g : u ≡ round_input run.variant (key_number run.key) p) where
+  module _ (h : clock.0 ≤ last_clock) (u : RoundInput) (p : ℕ) (q : p ≡ clock.0 / run.row.clocks) (g : u ≡ round_input run.variant (key_number run.key) p) where
     input_is : u ≡ clock_input run.variant (key_number run.key) clock.0
     input_is =
         let early : p < rounds = omega (arith, q, div-le_self clock.0 run.row.clocks) in
-        g ∙ rw (lt-ltb p rounds early) (ap (input_of run.variant (key_number run.key)) (q ∙ ap (λ (r : Row). clock.0 / r.clocks) e))
+        g ∙ rw (lt-ltb p rounds early) (ap (input_of run.variant (key_number run.key)) (q ∙ ap (λ (r : Row). clock.0 / r.clocks) run.is_row))
 
     pub fa_is : fa xor_traced and_traced run.row l1_at (given u.ir) (given u.ka) ≡ fa_at run.variant (key_number run.key) run.block clock.0
     fa_is =
-        ap₂ (λ (r : Row) (w : RoundInput). fa xor_traced and_traced r (place_at (fb_at run.variant (key_number run.key) run.block) (registers r run.block).l1 clock.0) (given w.ir) (given w.ka)) e input_is
+        ap₂ (λ (r : Row) (w : RoundInput). fa xor_traced and_traced r (place_at (fb_at run.variant (key_number run.key) run.block) (registers r run.block).l1 clock.0) (given w.ir) (given w.ka)) run.is_row input_is
         ∙ sym (fa_followed run.variant (key_number run.key) run.block clock.0)
 
     pub fb_is : fb xor_traced and_traced run.row l2_at (given u.kb) ≡ fb_at run.variant (key_number run.key) run.block clock.0
     fb_is =
-        ap₂ (λ (r : Row) (w : RoundInput). fb xor_traced and_traced r (place_at (fa_at run.variant (key_number run.key) run.block) (registers r run.block).l2 clock.0) (given w.kb)) e input_is
+        ap₂ (λ (r : Row) (w : RoundInput). fb xor_traced and_traced r (place_at (fa_at run.variant (key_number run.key) run.block) (registers r run.block).l2 clock.0) (given w.kb)) run.is_row input_is
         ∙ sym (fb_followed run.variant (key_number run.key) run.block clock.0)
 
 -- the counts of six places fit a word together

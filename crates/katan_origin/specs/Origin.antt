@@ -2,10 +2,8 @@
 -- Assumes nothing.
 use Rattle.std.specs.Prelude.{ℕ, ◌+◌, List, [], ◌∷◌, ltb}
 use Rattle.katan.specs.Bit.{number_in}
-use Rattle.katan.specs.Checks.{number_of, Outcome, value, refused, Check, checked, variant_check, key_check, block_check}
+use Rattle.katan.specs.Checks.{Outcome, value, Check, checked, variant_check, key_check, block_check}
 use Rattle.katan_origin.specs.declared.ClockBits.{ClockBits}
-use Rattle.katan_origin.specs.declared.OriginAnswer.{OriginAnswer}
-use Rattle.katan_origin.specs.declared.OriginAnswer.TheVariants.{Found, Refused}
 use Rattle.katan_origin.specs.Chains.{fa_at, fb_at}
 
 -- fa and fb of a clock, and the block bits looked up for both
@@ -26,8 +24,3 @@ origin_checks v key x t = variant_check v ∷ key_check key ∷ clock_check t �
 
 abbrev pub origin_answer : (v : ℕ) → List ℕ → (x t : ℕ) → Outcome ClockBits
 origin_answer v key x t = checked (origin_checks v key x t) (value (origin_of v (number_in key) x t))
-
--- the bits and their count, or the refusal's number
-abbrev pub origin_outcome : OriginAnswer → Outcome ClockBits
-origin_outcome (Found o) = value o
-origin_outcome (Refused r) = refused (number_of r)

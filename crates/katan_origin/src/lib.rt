@@ -2,12 +2,12 @@
 #![tactic(auto)]
 
 ghost use Rattle.std.specs.Prelude.{◌≡◌, ◌≤◌};
+ghost use Rattle.katan.specs.Checks.{outcome};
 ghost use Rattle.katan.specs.Key.{key_number};
-ghost use Rattle.katan.specs.Variant.{row_of};
-ghost use Rattle.katan_origin.specs.Origin.{last_clock, origin_of, origin_outcome, origin_answer};
+ghost use Rattle.katan_origin.specs.Origin.{last_clock, origin_of, origin_answer};
 
 use crate::chains::{Run, fa, fb};
-use katan::{ClockNumber, KEY_BYTES, Refusal, RowAnswer};
+use katan::{ClockNumber, KEY_BYTES, Refusal};
 
 mod chains;
 
@@ -19,19 +19,12 @@ pub struct ClockBits {
     pub looked_up: u64,
 }
 
-// What a call answers: the two bits, or the first fault found.
-#[derive(Clone, Copy)]
-pub enum OriginAnswer {
-    Found(ClockBits),
-    Refused(Refusal),
-}
-
 // The last clock number that is answered.
 const LAST_CLOCK: usize = 23;
 
 // Both bits of a clock, each by its chain.
 fn both_bits(run: Run, clock: ClockNumber) -> ClockBits
-    requires { (run.row ≡ row_of run.variant) × (clock.0 ≤ last_clock) }
+    requires { clock.0 ≤ last_clock }
     ensures { result ≡ origin_of run.variant (key_number run.key) run.block clock.0 }
 {
     let a = fa(run, clock);
@@ -44,28 +37,24 @@ fn both_bits(run: Run, clock: ClockNumber) -> ClockBits
 }
 
 // fa and fb of a clock of the block at position 0.
-pub fn origin(variant: u8, key: &[u8], block: u64, clock: ClockNumber) -> OriginAnswer
-    ensures { origin_outcome result ≡ origin_answer variant key.now block clock.0 }
+pub fn origin(variant: u8, key: &[u8], block: u64, clock: ClockNumber) -> Result<ClockBits, Refusal>
+    ensures { outcome result ≡ origin_answer variant key.now block clock.0 }
 {
-    match katan_variants::row_of(variant) {
-        RowAnswer::Found(row) => {
-            if key.len() != KEY_BYTES {
-                return OriginAnswer::Refused(Refusal::BadLength);
-            }
-            if LAST_CLOCK < clock.0 {
-                return OriginAnswer::Refused(Refusal::BadClock);
-            }
-            if katan_numbers::too_wide(row.n, block) {
-                return OriginAnswer::Refused(Refusal::BadBlock);
-            }
-            let run = Run {
-                variant,
-                row,
-                key: katan_numbers::key_of(key),
-                block,
-            };
-            OriginAnswer::Found(both_bits(run, clock))
-        }
-        RowAnswer::Refused(r) => OriginAnswer::Refused(r),
+    let row = katan_variants::row_of(variant)?;
+    if key.len() != KEY_BYTES {
+        return Err(Refusal::BadLength);
     }
+    if LAST_CLOCK < clock.0 {
+        return Err(Refusal::BadClock);
+    }
+    if katan_numbers::too_wide(row.n, block) {
+        return Err(Refusal::BadBlock);
+    }
+    let run = Run {
+        variant,
+        row,
+        key: katan_numbers::key_of(key),
+        block,
+    };
+    Ok(both_bits(run, clock))
 }
