@@ -5,7 +5,7 @@ use mathlib.Core.Bool.{Bool, true, false}
 use mathlib.Core.List.{List, [], ◌∷◌}
 use Prim.Native.Nat.{ℕ, zero, suc, ◌*◌, ◌^◌, ◌<◌, ◌≤◌}
 use native.Mathlib.Omega.{arith}
-use borrow.Author.Tests.{eq-eqb, ne_eqb, lt-ltb, le-ltb, leb-false}
+use borrow.Author.Tests.{eq-eqb, ne_eqb, le-ltb, leb-false}
 use lib.Dec.{leb}
 use lib.ListN.{length, get_or}
 use Rattle.katan.specs.Bit.{pick}
@@ -41,37 +41,14 @@ module _ (v : ℕ) (row : Row) (r : row ≡ row_of v) (blocks : List ℕ) where
 -- ---- the first fault found
 
 module _ (v : ℕ) (keys blocks out : List ℕ) where
-  -- check 2, fault by fault
-  pub none_fault : length blocks ≡ 0 → (lengths_check keys blocks out).fault ≡ true
-  none_fault e = rw (eq-eqb (length blocks) 0 e)
-
-  module _ (some : length blocks ≡ 0 → ⊥) where
-    pub many_fault : lane_count < length blocks → (lengths_check keys blocks out).fault ≡ true
-    many_fault h = rw (ne_eqb (length blocks) 0 some, lt-ltb lane_count (length blocks) h)
-
-    module _ (few : length blocks ≤ lane_count) where
-      pub keys_fault : (length keys ≡ key_bytes * length blocks → ⊥) → (lengths_check keys blocks out).fault ≡ true
-      keys_fault h = rw (ne_eqb (length blocks) 0 some, le-ltb lane_count (length blocks) few, ne_eqb (length keys) (key_bytes * length blocks) h)
-
-      module _ (enough : length keys ≡ key_bytes * length blocks) where
-        pub out_fault : (length out ≡ length blocks → ⊥) → (lengths_check keys blocks out).fault ≡ true
-        out_fault h =
-            rw (ne_eqb (length blocks) 0 some, le-ltb lane_count (length blocks) few, eq-eqb (length keys) (key_bytes * length blocks) enough, ne_eqb (length out) (length blocks) h)
-
-        pub no_fault : length out ≡ length blocks → (lengths_check keys blocks out).fault ≡ false
-        no_fault h =
-            rw (ne_eqb (length blocks) 0 some, le-ltb lane_count (length blocks) few, eq-eqb (length keys) (key_bytes * length blocks) enough, eq-eqb (length out) (length blocks) h)
+  pub no_fault : (length blocks ≡ 0 → ⊥) → length blocks ≤ lane_count → length keys ≡ key_bytes * length blocks → length out ≡ length blocks → (lengths_check keys blocks out).fault ≡ false
+  no_fault some few enough h =
+      rw (ne_eqb (length blocks) 0 some, le-ltb lane_count (length blocks) few, eq-eqb (length keys) (key_bytes * length blocks) enough, eq-eqb (length out) (length blocks) h)
 
   module _ {A : Type 0} (r : Outcome A) where
-    finds_1 : (variant_check v).fault ≡ true → checked (many_checks v keys blocks out) r ≡ refused 1
-    finds_1 e = fault_first (variant_check v) (lengths_check keys blocks out ∷ blocks_check v blocks ∷ []) r e
-
     module _ (e : (variant_check v).fault ≡ false) where
       past_1 : checked (many_checks v keys blocks out) r ≡ checked (lengths_check keys blocks out ∷ blocks_check v blocks ∷ []) r
       past_1 = fault_later (variant_check v) (lengths_check keys blocks out ∷ blocks_check v blocks ∷ []) r e
-
-      finds_2 : (lengths_check keys blocks out).fault ≡ true → checked (many_checks v keys blocks out) r ≡ refused 2
-      finds_2 f = past_1 ∙ fault_first (lengths_check keys blocks out) (blocks_check v blocks ∷ []) r f
 
       module _ (f : (lengths_check keys blocks out).fault ≡ false) where
         past_2 : checked (many_checks v keys blocks out) r ≡ checked (blocks_check v blocks ∷ []) r
@@ -93,13 +70,7 @@ module _ (v : ℕ) (keys blocks out : List ℕ) where
         → Promised (refused k) out
     refuses k h g = (sym h, sym (ap (λ (o : Outcome (List ℕ)). lent_after (λ (ys : List ℕ). ys) o out) g))
 
-    pub refuses_1 : (k : ℕ) → k ≡ 1 → (variant_check v).fault ≡ true → Promised (refused k) out
-    refuses_1 k q e = rw q (refuses 1 (finds_1 (value (tt {0})) e) (finds_1 (value (results d v keys blocks)) e))
-
     module _ (e : (variant_check v).fault ≡ false) where
-      pub refuses_2 : (lengths_check keys blocks out).fault ≡ true → Promised (refused 2) out
-      refuses_2 f = refuses 2 (finds_2 (value (tt {0})) e f) (finds_2 (value (results d v keys blocks)) e f)
-
       module _ (f : (lengths_check keys blocks out).fault ≡ false) where
         pub refuses_7 : (blocks_check v blocks).fault ≡ true → Promised (refused 7) out
         refuses_7 g = refuses 7 (finds_7 (value (tt {0})) e f g) (finds_7 (value (results d v keys blocks)) e f g)

@@ -2,13 +2,15 @@
 -- Assumes nothing.
 use mathlib.Core.Path.{◌≡◌, refl, sym, ap, subst, ◌∙◌}
 use mathlib.Core.Bool.{Bool, true, false}
-use mathlib.Core.List.{List, [], ◌∷◌}
-use Prim.Native.Nat.{ℕ, suc, ◌+◌, ◌*◌, ◌/◌, ◌%◌, ◌^◌, ◌<◌, ◌≤◌}
+use mathlib.Core.List.{List, [], ◌∷◌, ◌++◌}
+use Prim.Native.Nat.{ℕ, suc, ◌+◌, ◌-◌, ◌*◌, ◌/◌, ◌%◌, ◌^◌, ◌<◌, ◌≤◌}
 use native.Mathlib.Nat.{lt_of_lt_of_le, mul_comm, mul-le-mul_left, div-lt_iff_lt-mul}
 use native.Mathlib.Omega.{arith}
 use borrow.Author.Tests.{ltb-true, ltb-false, lt-leb}
 use lib.Dec.{ltb}
-use lib.ListN.{length, get_or, replicate, get_or-replicate}
+use lib.ListN.{length, get_or, drop, replicate, length-append, length-drop, length-replicate, get_or-append, get_or-replicate}
+use lib.Seq.{get_or-drop}
+use Rattle.std.proofs.lemmas.List.{get_or-append_right}
 use lib.Pow.{pow_pos, pow_mono}
 use Rattle.katan.specs.Bit.{pick, bytes_of}
 use Rattle.katan.specs.Sizes.{lane_count, key_bytes}
@@ -53,16 +55,34 @@ module _ (v : ℕ) (keys numbers old : List ℕ) (known : (variant_check v).faul
   one_done new e i q =
       ap (λ (xs : List ℕ). get_or xs i 0) (e ∙ many_done) ∙ entry (λ j. encryption v (block_key keys j) (get_or numbers j 0)) (length numbers) i 0 (omega arith)
 
--- the numbers of a batch are blocks: those past the last are 0
-pub numbers_small : (start first count n : ℕ) (xs : List ℕ) → Entries (λ i. start + (first + i)) count xs → ((i : ℕ) → count ≤ i → get_or xs i 0 ≡ get_or (replicate {A = ℕ} lane_count 0) i 0)
-    → start + (first + count) ≤ 2 ^ n → (i : ℕ) → i < lane_count → get_or xs i 0 < 2 ^ n
-numbers_small start first count n xs e past h i q = go (ltb i count) refl
-  where
-    go : (b : Bool) → ltb i count ≡ b → get_or xs i 0 < 2 ^ n
-    go true d =
-        let l = ltb-true i count d in
-        subst (λ (x : ℕ). x < 2 ^ n) (sym (e i l)) (omega arith)
-    go false d = subst (λ (x : ℕ). x < 2 ^ n) (sym (past i (ltb-false i count d) ∙ get_or-replicate lane_count i 0 0 q)) (pow_pos n)
+-- the numbers of a batch, in the first places, and zeros
+module _ (start first count n : ℕ) (xs : List ℕ) (l : length xs ≡ count) (e : Entries (λ i. start + (first + i)) count xs) where
+  abbrev pub numbers : List ℕ
+  numbers = xs ++ drop count (replicate lane_count 0)
+
+  pub numbers_long : count ≤ lane_count → length numbers ≡ lane_count
+  numbers_long h =
+      let zeros = replicate {A = ℕ} lane_count 0 in
+      omega (arith, length-append xs (drop count zeros), length-drop count zeros, length-replicate {A = ℕ} lane_count 0, l, h)
+
+  pub number : Entries (λ i. start + (first + i)) count numbers
+  number i q = get_or-append xs _ 0 i (omega arith) ∙ e i q
+
+  -- they are blocks
+  pub numbers_small : start + (first + count) ≤ 2 ^ n → (i : ℕ) → i < lane_count → get_or numbers i 0 < 2 ^ n
+  numbers_small h i q = go (ltb i count) refl
+    where
+      go : (b : Bool) → ltb i count ≡ b → get_or numbers i 0 < 2 ^ n
+      go true d =
+          let p = ltb-true i count d in
+          subst (λ (x : ℕ). x < 2 ^ n) (sym (number i p)) (omega arith)
+      go false d =
+          let p = ltb-false i count d in
+          let t : count + (i - count) ≡ i = omega arith in
+          let zero : get_or numbers i 0 ≡ 0
+          = get_or-append_right xs _ count i 0 l p ∙ get_or-drop count (replicate lane_count 0) (i - count) 0 ∙ ap (λ (k : ℕ). get_or (replicate {A = ℕ} lane_count 0) k 0) t
+          ∙ get_or-replicate lane_count i 0 0 q in
+          subst (λ (x : ℕ). x < 2 ^ n) (sym zero) (pow_pos n)
 
 -- the bytes of the first blocks, where the blocks are known
 pub bytes_known : (s count most : ℕ) (x y : ℕ → ℕ) (out : List ℕ) → 1 ≤ s → count ≤ most → ((i : ℕ) → i < count → x i ≡ y i) → Entries (byte_of s x) (s * most) out → Entries (byte_of s y) (s * count) out

@@ -3,7 +3,7 @@
 use mathlib.Core.Path.{◌≡◌, refl, sym, ap, ap₂, subst, ◌∙◌}
 use mathlib.Core.Bool.{Bool, true, false}
 use mathlib.Core.List.{List}
-use Prim.Native.Nat.{ℕ, ◌+◌, ◌-◌, ◌*◌, ◌/◌, ◌%◌, ◌<◌, ◌≤◌}
+use Prim.Native.Nat.{ℕ, min, ◌+◌, ◌-◌, ◌*◌, ◌/◌, ◌%◌, ◌<◌, ◌≤◌}
 use native.Mathlib.Nat.{mul-add, mul_comm, mul-le-mul, mul-le-mul_left, mul-add-div, mul-add-mod_self_left}
 use native.Mathlib.Omega.{arith}
 use borrow.Author.Tests.{ltb-true, ltb-false}
@@ -43,12 +43,12 @@ pub record Turn (s first count m : ℕ) : Type 0 where
   pub next : s * first < s * first + s * count
 
 pub turn : (v s blocks first count m : ℕ) → s ≡ block_bytes v → blocks ≡ block_count v m → m ≤ longest_message → first < blocks
-    → (count ≤ blocks - first) × (count ≤ lane_count) × ((j : ℕ) → j < blocks - first → j < lane_count → j < count) → Turn s first count m
+    → count ≡ min lane_count (blocks - first) → Turn s first count m
 turn v s blocks first count m e b short q w =
     let i : first * block_bytes v < m = starts_within v m first (subst (λ (n : ℕ). first < n) b q) in
     let one : first * 1 ≤ first * block_bytes v = mul-le-mul_left first (some_bytes v) in
-    let least : 1 * 1 ≤ block_bytes v * count = mul-le-mul (some_bytes v) (w.2 0 (omega arith) (omega arith)) in
-    let most : block_bytes v * count ≤ word_bytes * lane_count = mul-le-mul (most_bytes v) w.1 in
+    let least : 1 * 1 ≤ block_bytes v * count = let l : 1 ≤ count = omega arith in mul-le-mul (some_bytes v) l in
+    let most : block_bytes v * count ≤ word_bytes * lane_count = let l : count ≤ lane_count = omega arith in mul-le-mul (most_bytes v) l in
     record {
       inside = subst (λ (k : ℕ). k * first < m) (sym e) (subst (λ (n : ℕ). n < m) (mul_comm first (block_bytes v)) i);
       fits = subst (λ (k : ℕ). k * count ≤ batch_length) (sym e) most;

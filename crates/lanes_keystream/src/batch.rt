@@ -18,15 +18,6 @@ const BATCH_LENGTH: usize = WORD_BYTES * LANES;
 
 const BATCH_KEYS: usize = KEY_BYTES * LANES;
 
-fn put_key(key: &[u8], out: &mut [u8])
-    requires { (length key.now ≡ key_bytes) × (length out.old ≡ key_bytes) }
-    ensures { out.new ≡ key.now }
-{
-    for i in 0..KEY_BYTES {
-        out[i] = key[i];
-    }
-}
-
 // The one key, for each block of a batch.
 fn repeated(key: &[u8]) -> [u8; BATCH_KEYS]
     requires { length key.now ≡ key_bytes }
@@ -36,18 +27,18 @@ fn repeated(key: &[u8]) -> [u8; BATCH_KEYS]
     for i in 0..LANES {
         let at = KEY_BYTES * i;
         let end = at + KEY_BYTES;
-        put_key(key, &mut keys[at..end]);
+        keys[at..end].copy_from_slice(key);
     }
     keys
 }
 
 // The numbers from `start + first` on.
-fn put_numbers(start: u64, first: usize, count: usize, out: &mut [u64])
-    requires { (count ≤ length out.old) × (start + (first + count) ≤ 2 ^ 64) × (first ≤ longest_message) }
-    ensures { Entries (λ i. start + (first + i)) count out.new × ((i : ℕ) → count ≤ i → get_or out.new i 0 ≡ get_or out.old i 0) }
+fn put_numbers(start: u64, first: usize, out: &mut [u64])
+    requires { (start + (first + length out.old) ≤ 2 ^ 64) × (first ≤ longest_message) }
+    ensures { Entries (λ i. start + (first + i)) (length out.old) out.new }
 {
-    for i in 0..count {
-        out[i] = start + (first + i) as u64;
+    for (i, number) in out.iter_mut().enumerate() {
+        *number = start + (first + i) as u64;
     }
 }
 
@@ -56,10 +47,10 @@ fn put_bytes(size: usize, blocks: &[u64], out: &mut [u8])
     requires { (1 ≤ size) × (size ≤ word_bytes) × (length blocks.now ≡ lane_count) × (length out.old ≡ batch_length) }
     ensures { Entries (byte_of size (λ i. get_or blocks.now i 0)) (size * lane_count) out.new }
 {
-    for i in 0..LANES {
+    for (i, block) in blocks.iter().enumerate() {
         let at = size * i;
         let end = at + WORD_BYTES;
-        katan_numbers::put_number(blocks[i], &mut out[at..end]);
+        katan_numbers::put_number(*block, &mut out[at..end]);
     }
 }
 
@@ -78,7 +69,7 @@ fn put_batch(
     ensures { Entries (byte_of size (λ i. encryption variant (block_key keys.now i) (start + (first + i)))) (size * count) out.new }
 {
     let mut numbers = [0u64; LANES];
-    put_numbers(start, first, count, &mut numbers);
+    put_numbers(start, first, &mut numbers[..count]);
     let mut encrypted = [0u64; LANES];
     // No check finds a fault: 64 blocks, each below 2^n, and 64 keys.
     let _ = lanes::many(Direction::Encrypt, variant, keys, &numbers, &mut encrypted);
@@ -93,12 +84,6 @@ fn combine(stream: &[u8], at: usize, end: usize, message: &[u8], out: &mut [u8])
     for j in at..end {
         out[j] = message[j] ^ stream[j - at];
     }
-}
-
-fn smaller(a: usize, b: usize) -> usize
-    ensures { (result ≤ a) × (result ≤ b) × ((j : ℕ) → j < a → j < b → j < result) }
-{
-    if a < b { a } else { b }
 }
 
 // All of the message, block after block. A batch is run while there is a block.
@@ -119,10 +104,10 @@ pub fn combine_all(
     let mut stream = [0u8; BATCH_LENGTH];
     let mut first: usize = 0;
     while first < blocks {
-        let count = smaller(blocks - first, LANES);
+        let count = LANES.min(blocks - first);
         put_batch(variant, size, &keys, start, first, count, &mut stream);
         let at = size * first;
-        let end = smaller(at + size * count, message.len());
+        let end = message.len().min(at + size * count);
         combine(&stream, at, end, message, out);
         first += count;
     }

@@ -7,7 +7,7 @@ ghost use Rattle.katan.specs.Sizes.{word_bits, word_bytes};
 ghost use Rattle.lanes_keystream.specs.Stream.{longest_message, stream_answer, stream_of};
 
 use crate::batch::combine_all;
-use katan::{KEY_BYTES, Refusal, WORD_BITS};
+use katan::{KEY_BYTES, Refusal};
 
 mod batch;
 
@@ -22,26 +22,12 @@ fn block_count(size: usize, length: usize) -> usize
     (length + (size - 1)) / size
 }
 
-// Whether the start plus the number of blocks exceeds 2^n. At n = 64 neither that sum nor 2^n need fit a word: the numbers left above the start are compared with
-// the blocks, both less one.
-fn past_the_end(n: usize, start: u64, blocks: u64) -> bool
+// Whether the start plus the number of blocks exceeds 2^n. At n = 64 neither of them need fit a word.
+fn past_the_end(n: usize, start: u64, blocks: usize) -> bool
     requires { n ≤ word_bits }
     ensures { result ≡ ltb (2 ^ n) (start + blocks) }
 {
-    if n < WORD_BITS {
-        let end = 1u64 << n;
-        if end < start {
-            true
-        } else {
-            end - start < blocks
-        }
-    } else {
-        if blocks == 0 {
-            false
-        } else {
-            u64::MAX - start < blocks - 1
-        }
-    }
+    (1u128 << n) < u128::from(start) + blocks as u128
 }
 
 // Encrypts or decrypts a message, which is the same: each byte is combined with the stream's.
@@ -64,7 +50,7 @@ pub fn keystream(
     }
     let size = row.n / 8;
     let blocks = block_count(size, message.len());
-    if past_the_end(row.n, start, blocks as u64) {
+    if past_the_end(row.n, start, blocks) {
         return Err(Refusal::BeyondEnd);
     }
     if katan_numbers::too_wide(row.n, start) {

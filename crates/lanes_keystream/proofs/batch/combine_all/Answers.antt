@@ -1,6 +1,5 @@
 use mathlib.Core.Path.{◌≡◌, refl, sym, ap, subst, ◌∙◌}
-use Prim.Native.Nat.{ℕ, ◌+◌, ◌*◌, ◌≤◌}
-use native.Mathlib.Nat.{le_of_lt}
+use Prim.Native.Nat.{ℕ, ◌+◌, ◌≤◌}
 use native.Mathlib.Omega.{arith}
 use borrow.Author.Rules.{rules}
 use lib.ListN.{length}
@@ -20,20 +19,17 @@ pub loop-first-init : goal.loop-first-init
 loop-first-init c =
     (c.requires.key_len.2, refl, omega arith, λ j q p. absurd (omega arith))
 
-pub smaller-count-requires : goal.smaller-count-requires
-smaller-count-requires c = tt
-
 pub put_batch-requires : goal.put_batch-requires
 put_batch-requires c =
-    let w = c.smaller-count in
+    let w = c.min-count in
     let l = c.loop-first in
     let a = c.args in
     let t = turn a.variant a.size a.blocks l.first w.result (length a.message.now) c.requires.variant_value.1 c.requires.variant_value.2 c.requires.key_len.1 (omega arith) w.ensures in
-    record { variant_value = (c.requires.variant_value.0, c.requires.variant_value.1, search rules, l.invariant.1); count_le_lane_count = (w.ensures.1, omega (arith, w.ensures.0, c.requires.variant_value.3), t.early) }
+    record { variant_value = (c.requires.variant_value.0, c.requires.variant_value.1, search rules, l.invariant.1); count_le_lane_count = (omega (arith, w.ensures), omega (arith, w.ensures, c.requires.variant_value.3), t.early) }
 
 pub overflow_mul-at : goal.overflow_mul-at
 overflow_mul-at c =
-    let w = c.smaller-count in
+    let w = c.min-count in
     let l = c.loop-first in
     let a = c.args in
     let t = turn a.variant a.size a.blocks l.first w.result (length a.message.now) c.requires.variant_value.1 c.requires.variant_value.2 c.requires.key_len.1 (omega arith) w.ensures in
@@ -41,7 +37,7 @@ overflow_mul-at c =
 
 pub overflow_mul-size : goal.overflow_mul-size
 overflow_mul-size c =
-    let w = c.smaller-count in
+    let w = c.min-count in
     let l = c.loop-first in
     let a = c.args in
     let t = turn a.variant a.size a.blocks l.first w.result (length a.message.now) c.requires.variant_value.1 c.requires.variant_value.2 c.requires.key_len.1 (omega arith) w.ensures in
@@ -49,43 +45,40 @@ overflow_mul-size c =
 
 pub overflow_add-at : goal.overflow_add-at
 overflow_add-at c =
-    let w = c.smaller-count in
+    let w = c.min-count in
     let l = c.loop-first in
     let a = c.args in
     let t = turn a.variant a.size a.blocks l.first w.result (length a.message.now) c.requires.variant_value.1 c.requires.variant_value.2 c.requires.key_len.1 (omega arith) w.ensures in
     record { fits = omega (arith, t.inside, t.fits, c.requires.key_len.1) }
 
-pub smaller-end-requires : goal.smaller-end-requires
-smaller-end-requires c = tt
-
 pub combine-requires : goal.combine-requires
 combine-requires c =
-    let end = c.smaller-end in
+    let end = c.min-end in
     let new = c.put_batch.new.out in
-    let w = c.smaller-count in
+    let w = c.min-count in
     let l = c.loop-first in
     let a = c.args in
     let t = turn a.variant a.size a.blocks l.first w.result (length a.message.now) c.requires.variant_value.1 c.requires.variant_value.2 c.requires.key_len.1 (omega arith) w.ensures in
-    (le_of_lt (end.ensures.2 (a.size * l.first) t.next t.inside), end.ensures.1, omega (arith, end.ensures.1, l.invariant.0), omega (arith, end.ensures.0, t.fits))
+    (omega (arith, end.ensures, t.inside), omega (arith, end.ensures), omega (arith, end.ensures, l.invariant.0), omega (arith, end.ensures, t.fits))
 
 pub overflow_add-first : goal.overflow_add-first
 overflow_add-first c =
-    let w = c.smaller-count in
+    let w = c.min-count in
     let l = c.loop-first in
-    record { fits = omega (arith, w.ensures.0) }
+    record { fits = omega (arith, w.ensures) }
 
 pub loop-first-smaller : goal.loop-first-smaller
 loop-first-smaller c =
-    let w = c.smaller-count in
+    let w = c.min-count in
     let l = c.loop-first in
-    omega (arith, w.ensures.2 0 (omega arith) (omega arith))
+    omega (arith, w.ensures)
 
 pub loop-first-preserved : goal.loop-first-preserved
 loop-first-preserved c =
     let n = c.combine in
-    let end = c.smaller-end in
+    let end = c.min-end in
     let p = c.put_batch in
-    let w = c.smaller-count in
+    let w = c.min-count in
     let l = c.loop-first in
     let k = c.repeated-keys in
     let a = c.args in
@@ -94,12 +87,12 @@ loop-first-preserved c =
     let known = bytes_known a.size w.result w.result (λ i. encryption a.variant (block_key k.result i) (a.start + (l.first + i)))
     (λ i. encryption a.variant (number_in a.key.now) (a.start + (l.first + i))) stream
     (subst (λ (m : ℕ). 1 ≤ m) (sym c.requires.variant_value.1) (some_bytes a.variant)) (omega arith)
-    (λ i q. ap (λ (x : ℕ). encryption a.variant x (a.start + (l.first + i))) (one i (omega (arith, w.ensures.1)))) p.ensures in (
+    (λ i q. ap (λ (x : ℕ). encryption a.variant x (a.start + (l.first + i))) (one i (omega (arith, w.ensures)))) p.ensures in (
       omega (arith, l.invariant.0),
       omega (arith, l.invariant.1),
-      omega (arith, w.ensures.0),
+      omega (arith, w.ensures),
       combined_more a.variant (number_in a.key.now) a.start a.message.now a.size c.requires.variant_value.1 l.first w.result end.result stream l.out n.new.out
-          n.ensures known end.ensures.2 l.invariant.3,
+          n.ensures known (λ j p q. omega (arith, end.ensures)) l.invariant.3,
     )
 
 pub shape_of-out : goal.shape_of-out

@@ -17,7 +17,7 @@ room size i h q =
     omega (arith, mul-le-mul {n₁ = size} {m₁ = i} {n₂ = 8} {m₂ = 63} h r)
 
 pub loop-i-init : goal.loop-i-init
-loop-i-init c = (search rules, omega arith, λ j q. absurd (omega arith))
+loop-i-init c = (search rules, λ j q. absurd (omega arith))
 
 pub overflow_mul-at : goal.overflow_mul-at
 overflow_mul-at c =
@@ -34,9 +34,6 @@ slice_bounds-put_number-end c =
     let i = c.loop-i.i in
     omega (arith, room c.args.size i c.requires.1 (omega arith))
 
-pub put_number-requires : goal.put_number-requires
-put_number-requires c = tt
-
 pub loop-i-preserved : goal.loop-i-preserved
 loop-i-preserved c =
     let l = c.loop-i in
@@ -45,7 +42,7 @@ loop-i-preserved c =
     let n : at + 8 - at ≡ 8 = omega arith in
     let r = room a.size l.i c.requires.1 (omega arith) in
     let m : length c.put_number.new.out ≡ 8 = omega arith in
-    (omega arith, omega arith, word_on a.size 8 l.i (at + 8 - at) (λ j. get_or a.blocks.now j 0) l.out c.put_number.new.out c.requires.1 (omega arith) n (in_bytes 8 (get_or a.blocks.now l.i 0) c.put_number.ensures (omega arith)) l.invariant.2)
+    (omega arith, word_on a.size 8 l.i (at + 8 - at) (λ j. get_or a.blocks.now j 0) l.out c.put_number.new.out c.requires.1 (omega arith) n (in_bytes 8 (get_or a.blocks.now l.i 0) c.put_number.ensures (omega arith)) l.invariant.1)
 
 pub shape_of-out : goal.shape_of-out
 shape_of-out c = c.loop-i.invariant.0 ∙ sym c.requires.3
@@ -54,4 +51,4 @@ pub returns : goal.returns
 returns c =
     let l = c.loop-i in
     let e : l.i ≡ lane_count = omega arith in
-    rw (sym e) l.invariant.2
+    rw (sym e) l.invariant.1
