@@ -3,18 +3,15 @@
 #![tactic(auto)]
 
 ghost use Rattle.std.specs.Prelude.{◌≡◌, ◌≤◌, length};
-ghost use Rattle.katan.specs.Checks.{position_check};
+ghost use Rattle.katan.specs.Checks.{position_check, outcome};
 ghost use Rattle.katan.specs.Counter.{rounds};
 ghost use Rattle.katan.specs.Lent.{status_of, lent_after};
-ghost use Rattle.katan_sheet.specs.Answers.{key_known, smudged_outcome, join_outcome};
+ghost use Rattle.katan_sheet.specs.Answers.{key_known};
 ghost use Rattle.driver_smudged.specs.Calls.{known_words, word_count, known_bytes, byte_count, smudged_call, join_call, joined_words, joined_bytes};
 
 use katan::{KEY_BYTES, Refusal, RoundPosition};
-use katan_sheet::{JoinAnswer, KnownBits, KnownKey, SmudgedAnswer};
-use katan_variants::refusal_number;
-
-// The status of a call that is not refused.
-const ACCEPTED: u8 = 0;
+use katan_sheet::{KnownBits, KnownKey};
+use katan_variants::status;
 
 // The words lent for the bits of a block, and the bytes lent for those of a key.
 const WORDS: usize = 2;
@@ -25,10 +22,7 @@ const BYTES: usize = 20;
 fn position_of(position: u64) -> RoundPosition
     ensures { (position_check result.0 ≡ position_check position) × (position ≤ rounds → result.0 ≡ position) }
 {
-    if katan::ROUND_COUNT < position as usize {
-        return RoundPosition(katan::ROUNDS + 1);
-    }
-    RoundPosition(position as u8)
+    RoundPosition(u8::try_from(position).unwrap_or(u8::MAX))
 }
 
 fn put_words(known: KnownBits, out: &mut [u64])
@@ -43,24 +37,33 @@ fn put_bytes(key: KnownKey, out: &mut [u8])
     requires { length out.old ≡ byte_count }
     ensures { out.new ≡ known_bytes (key_known key) }
 {
-    let ones = key.ones;
-    let zeros = key.zeros;
-    katan_numbers::put_key(ones, &mut out[0..KEY_BYTES]);
-    katan_numbers::put_key(zeros, &mut out[KEY_BYTES..BYTES]);
+    let (ones, zeros) = out.split_at_mut(KEY_BYTES);
+    katan_numbers::put_key(key.ones, ones);
+    katan_numbers::put_key(key.zeros, zeros);
 }
 
-fn put_known(answer: SmudgedAnswer, out: &mut [u64]) -> u8
-    requires { length out.old ≡ word_count }
-    ensures value { result ≡ status_of (smudged_outcome answer) }
-    ensures out_after { out.new ≡ lent_after known_words (smudged_outcome answer) out.old }
+// A run of a sheet, where variant and lent memory are sound and the run is not refused.
+fn put_run(
+    variant: u8,
+    block: KnownBits,
+    key_ones: &[u8],
+    key_zeros: &[u8],
+    position: u64,
+    out: &mut [u64],
+) -> Result<(), Refusal>
+    ensures value { status_of (outcome result) ≡ status_of (smudged_call variant block key_ones.now key_zeros.now position out.old) }
+    ensures out_after { out.new ≡ lent_after known_words (smudged_call variant block key_ones.now key_zeros.now position out.old) out.old }
 {
-    match answer {
-        SmudgedAnswer::Known(known) => {
-            put_words(known, out);
-            ACCEPTED
-        }
-        SmudgedAnswer::Refused(r) => refusal_number(r),
+    if katan_variants::bad_variant(variant) {
+        return Err(Refusal::BadVariant);
     }
+    if out.len() != WORDS {
+        return Err(Refusal::BadLength);
+    }
+    let to = position_of(position);
+    let known = katan_smudged::smudged(variant, block, key_ones, key_zeros, to)?;
+    put_words(known, out);
+    Ok(())
 }
 
 // What is known of the registers at a position, with the block in them at position 0, into the two words of `out`: the bits known as 1, then those known
@@ -77,36 +80,44 @@ pub fn smudged(
     ensures value { result ≡ status_of (smudged_call variant (record { ones = ones; zeros = zeros }) key_ones.now key_zeros.now position out.old) }
     ensures out_after { out.new ≡ lent_after known_words (smudged_call variant (record { ones = ones; zeros = zeros }) key_ones.now key_zeros.now position out.old) out.old }
 {
-    if katan_variants::bad_variant(variant) {
-        return refusal_number(Refusal::BadVariant);
-    }
-    if out.len() != WORDS {
-        return refusal_number(Refusal::BadLength);
-    }
     let block = KnownBits { ones, zeros };
-    let to = position_of(position);
-    put_known(
-        katan_smudged::smudged(variant, block, key_ones, key_zeros, to),
-        out,
-    )
+    status(put_run(variant, block, key_ones, key_zeros, position, out))
 }
 
-fn put_joined(answer: JoinAnswer, out: &mut [u64], key_out: &mut [u8]) -> u8
-    requires { (length out.old ≡ word_count) × (length key_out.old ≡ byte_count) }
-    ensures { (result ≡ status_of (join_outcome answer))
-        × (out.new ≡ lent_after joined_words (join_outcome answer) out.old)
-        × (key_out.new ≡ lent_after joined_bytes (join_outcome answer) key_out.old) }
+// A join of two sheets, where variant and lent memory are sound and the join is not refused.
+fn put_joined(
+    variant: u8,
+    block: KnownBits,
+    key_ones: &[u8],
+    key_zeros: &[u8],
+    other: KnownBits,
+    other_key_ones: &[u8],
+    other_key_zeros: &[u8],
+    out: &mut [u64],
+    key_out: &mut [u8],
+) -> Result<(), Refusal>
+    ensures value { status_of (outcome result) ≡ status_of (join_call variant block key_ones.now key_zeros.now other other_key_ones.now other_key_zeros.now out.old key_out.old) }
+    ensures out_after { out.new ≡ lent_after joined_words (join_call variant block key_ones.now key_zeros.now other other_key_ones.now other_key_zeros.now out.old key_out.old) out.old }
+    ensures key_after { key_out.new ≡ lent_after joined_bytes (join_call variant block key_ones.now key_zeros.now other other_key_ones.now other_key_zeros.now out.old key_out.old) key_out.old }
 {
-    match answer {
-        JoinAnswer::Joined(sheet) => {
-            let block = sheet.block;
-            let key = sheet.key;
-            put_words(block, out);
-            put_bytes(key, key_out);
-            ACCEPTED
-        }
-        JoinAnswer::Refused(r) => refusal_number(r),
+    if katan_variants::bad_variant(variant) {
+        return Err(Refusal::BadVariant);
     }
+    if out.len() != WORDS || key_out.len() != BYTES {
+        return Err(Refusal::BadLength);
+    }
+    let sheet = katan_sheet::join(
+        variant,
+        block,
+        key_ones,
+        key_zeros,
+        other,
+        other_key_ones,
+        other_key_zeros,
+    )?;
+    put_words(sheet.block, out);
+    put_bytes(sheet.key, key_out);
+    Ok(())
 }
 
 // What either of two sheets of one block knows: of the block into the two words of `out`, of the key into the 20 bytes of `key_out`, each time the bits
@@ -128,31 +139,20 @@ pub fn join(
         × (out.new ≡ lent_after joined_words (join_call variant (record { ones = ones; zeros = zeros }) key_ones.now key_zeros.now (record { ones = other_ones; zeros = other_zeros }) other_key_ones.now other_key_zeros.now out.old key_out.old) out.old)
         × (key_out.new ≡ lent_after joined_bytes (join_call variant (record { ones = ones; zeros = zeros }) key_ones.now key_zeros.now (record { ones = other_ones; zeros = other_zeros }) other_key_ones.now other_key_zeros.now out.old key_out.old) key_out.old) }
 {
-    if katan_variants::bad_variant(variant) {
-        return refusal_number(Refusal::BadVariant);
-    }
-    if out.len() != WORDS {
-        return refusal_number(Refusal::BadLength);
-    }
-    if key_out.len() != BYTES {
-        return refusal_number(Refusal::BadLength);
-    }
     let block = KnownBits { ones, zeros };
     let other = KnownBits {
         ones: other_ones,
         zeros: other_zeros,
     };
-    put_joined(
-        katan_sheet::join(
-            variant,
-            block,
-            key_ones,
-            key_zeros,
-            other,
-            other_key_ones,
-            other_key_zeros,
-        ),
+    status(put_joined(
+        variant,
+        block,
+        key_ones,
+        key_zeros,
+        other,
+        other_key_ones,
+        other_key_zeros,
         out,
         key_out,
-    )
+    ))
 }
