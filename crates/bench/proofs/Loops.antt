@@ -3,13 +3,14 @@
 use mathlib.Core.Path.{◌≡◌, refl}
 use Rattle.std.specs.Prelude.{Option, None}
 use mathlib.Core.Bool.{false, ◌||◌}
-use mathlib.Core.List.{List, ◌++◌, map, append_assoc}
+use mathlib.Core.List.{List, [], ◌∷◌, ◌++◌, map, append_assoc}
 use Prim.Native.Nat.{ℕ, suc, ◌+◌, ◌/◌, ◌%◌, ◌<◌}
 use native.Mathlib.Numerals.{add-one}
 use native.Mathlib.Omega.{arith}
 use borrow.Author.Tests.{lt-leb}
 use lib.ListN.{length, get_or, take, drop, set, get_or-map}
 use lib.Seq.{drop-cons, take-suc-set, drop-set-lt}
+use Rattle.std.specs.List.{list_any}
 use Rattle.katan.specs.Sizes.{lane_count}
 use Rattle.bench.specs.declared.Loaded.{Loaded}
 use Rattle.bench.specs.declared.Bench.{Bench}
@@ -19,6 +20,11 @@ use Rattle.bench.specs.Steps.{step_slots, moved_slots}
 use Rattle.bench.specs.inner.Slots.{step_slot, moved_slot}
 
 -- ---- check 1 over the lanes
+
+pub any_fault : (v : ℕ) (ss : List (Option Loaded)) → list_any (λ l. lane_fault v (lane_view l)) ss ≡ any_lane_fault v (map lane_view ss)
+unfolding any_lane_fault
+any_fault v [] = refl
+any_fault v (s ∷ ss) = rw (any_fault v ss)
 
 pub faults_on : (v : ℕ) (ss : List (Option Loaded)) (i : ℕ) → i < length ss
     → any_lane_fault v (map lane_view (drop i ss)) ≡ (lane_fault v (lane_view (get_or ss i None)) || any_lane_fault v (map lane_view (drop (i + 1) ss)))

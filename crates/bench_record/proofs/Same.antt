@@ -1,30 +1,23 @@
 -- Two lists of bytes, compared byte by byte.
 -- Assumes nothing.
-use mathlib.Core.Path.{◌≡◌, refl, ap, ap₂}
+use mathlib.Core.Path.{◌≡◌, refl, ap₂}
 use mathlib.Core.List.{List, [], ◌∷◌}
-use mathlib.Core.Bool.{true, false, ◌&&◌}
-use Prim.Native.Nat.{ℕ, suc, ◌+◌, ◌<◌}
-use native.Mathlib.Numerals.{add-one}
+use mathlib.Core.Bool.{true}
+use Prim.Native.Nat.{ℕ}
 use native.Mathlib.Omega.{arith}
 use borrow.Author.Tests.{eq-eqb, eqb-true}
 use lib.Dec.{eqb}
-use lib.ListN.{length, drop, get_or}
-use lib.Seq.{drop-cons}
-use Rattle.katan.proofs.Booleans.{and_false, both}
+use Rattle.std.specs.Cmp.Lexicographic.{pointwise}
+use Rattle.katan.proofs.Booleans.{both}
 use Rattle.bench_record.specs.Fields.{same_bytes}
 
-pub other_length : (a b : List ℕ) → (length a ≡ length b → ⊥) → same_bytes a b ≡ false
+-- what `==` of two slices compares
+pub same_by_pairs : (a b : List ℕ) → same_bytes a b ≡ pointwise eqb a b
 unfolding same_bytes
-other_length [] [] h = absurd (h refl)
-other_length [] (y ∷ ys) h = refl
-other_length (x ∷ xs) [] h = refl
-other_length (x ∷ xs) (y ∷ ys) h = rw (other_length xs ys (λ e. h (ap suc e))) (and_false (eqb x y))
-
--- from byte i on: byte i, and the bytes after it
-pub same_from : (a b : List ℕ) (i : ℕ) → i < length a → i < length b
-    → same_bytes (drop i a) (drop i b) ≡ eqb (get_or a i 0) (get_or b i 0) && same_bytes (drop (i + 1) a) (drop (i + 1) b)
-unfolding same_bytes
-same_from a b i p q = simp (add-one, drop-cons a i 0 p, drop-cons b i 0 q)
+same_by_pairs [] [] = refl
+same_by_pairs [] (y ∷ ys) = refl
+same_by_pairs (x ∷ xs) [] = refl
+same_by_pairs (x ∷ xs) (y ∷ ys) = rw (same_by_pairs xs ys)
 
 -- lists of the same bytes are equal, and a list has the same bytes as itself
 pub same_equal : (a b : List ℕ) → same_bytes a b ≡ true → a ≡ b

@@ -3,7 +3,7 @@
 
 ghost use Rattle.std.specs.Prelude.{◌≡◌, ◌++◌, ◌+◌, ◌-◌, ◌≤◌, take, drop};
 ghost use Rattle.katan.specs.Bit.{bytes_of};
-ghost use Rattle.bench_record.specs.Fields.{record_length, part, same_bytes, decode};
+ghost use Rattle.bench_record.specs.Fields.{record_length, part, decode};
 ghost use Rattle.bench_record.specs.Codec.{record_in, encode};
 ghost use Rattle.bench_record.specs.Kinds.{byte_of, ReadAs};
 
@@ -155,20 +155,4 @@ pub fn encoded(fields: Record) -> [u8; LENGTH]
     bytes = put_word(bytes, KEY_HIGH_AT, BLOCK_AT, key.high as u64);
     bytes = put_word(bytes, BLOCK_AT, REST_AT, fields.block);
     put_word(bytes, REST_AT, LENGTH, fields.rest)
-}
-
-pub fn same_bytes(a: &[u8], b: &[u8]) -> bool
-    ensures { result ≡ same_bytes a.now b.now }
-{
-    if a.len() != b.len() {
-        return false;
-    }
-    let mut i: usize = 0;
-    while i < a.len() {
-        if a[i] != b[i] {
-            return false;
-        }
-        i += 1;
-    }
-    true
 }
