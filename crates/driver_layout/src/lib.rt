@@ -117,22 +117,16 @@ pub fn link_in(bytes: &[u8]) -> Link
     }
 }
 
-// The state and the position of a loaded lane.
-fn put_head(position: u8, out: &mut [u8])
-    requires { length out.old ≡ key_start }
-    ensures { out.new ≡ loaded_state ∷ position ∷ [] }
-{
-    out[STATE_AT] = LOADED;
-    out[POSITION_AT] = position;
-}
-
 fn put_loaded(h: Loaded, out: &mut [u8])
     requires { length out.old ≡ lane_length }
     ensures { out.new ≡ loaded_bytes h }
 {
-    put_head(h.position.0, &mut out[STATE_AT..KEY_AT]);
-    katan_numbers::put_key(h.key, &mut out[KEY_AT..REGISTERS_AT]);
-    katan_numbers::put_number(h.registers, &mut out[REGISTERS_AT..LANE_LENGTH]);
+    let (head, rest) = out.split_at_mut(KEY_AT);
+    let (key, registers) = rest.split_at_mut(KEY_BYTES);
+    head[STATE_AT] = LOADED;
+    head[POSITION_AT] = h.position.0;
+    katan_numbers::put_key(h.key, key);
+    katan_numbers::put_number(h.registers, registers);
 }
 
 // The other bytes of an empty lane are kept.
@@ -178,9 +172,11 @@ fn write_link(link: Link, out: &mut [u8])
     requires { length out.old ≡ link_length }
     ensures { out.new ≡ link_bytes link }
 {
-    katan_numbers::put_number(u64::from(link.last), &mut out[LAST_AT..TOTAL_AT]);
-    katan_numbers::put_number(u64::from(link.total), &mut out[TOTAL_AT..RECORD_AT]);
-    out[RECORD_AT..LINK_LENGTH].copy_from_slice(&link.bytes);
+    let (last, rest) = out.split_at_mut(NUMBER_BYTES);
+    let (total, record) = rest.split_at_mut(NUMBER_BYTES);
+    katan_numbers::put_number(u64::from(link.last), last);
+    katan_numbers::put_number(u64::from(link.total), total);
+    record.copy_from_slice(&link.bytes);
 }
 
 pub fn put_link(link: Link, out: &mut [u8])
