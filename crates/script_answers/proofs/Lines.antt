@@ -13,8 +13,10 @@ use Rattle.script_form.proofs.Blocks.{digits_fit}
 use Rattle.script_answers.specs.declared.Printed.{Printed}
 use Rattle.bench.specs.Calls.{done, again, at, Answer}
 use Rattle.bench.specs.Bench.{reply_answer}
+use Rattle.std.specs.Prelude.{Result, Ok, Err}
+use Rattle.katan.specs.declared.Refusal.{Refusal}
 use Rattle.bench.specs.declared.Reply.{Reply}
-use Rattle.bench.specs.declared.Reply.TheVariants.{Done, Again, Refused}
+use Rattle.bench.specs.declared.Reply.TheVariants.{Done, Again}
 use Rattle.script_answers.specs.Printed.{line_as, opened_line, answer_line, printed_as, room}
 
 pub drop_zeros : (k n : ℕ) → drop {A = ℕ} k (replicate n 0) ≡ replicate (n - k) 0
@@ -44,11 +46,11 @@ module _ (n t : ℕ) where
   at_fits d x h = simp length-append (omega (arith, decimal_most n, decimal_most t, length-fixed 16 d x))
 
 -- the answer to a record shows no lane and no registers
-pub reply_line : (v lane : ℕ) (r : Reply) → answer_line 0 0 (reply_answer r) ≡ answer_line v lane (reply_answer r)
+pub reply_line : (v lane : ℕ) (r : Result Reply Refusal) → answer_line 0 0 (reply_answer r) ≡ answer_line v lane (reply_answer r)
 unfolding answer_line
-reply_line v lane (Done number total) = refl
-reply_line v lane (Again number total) = refl
-reply_line v lane (Refused k) = refl
+reply_line v lane (Ok (Done number total)) = refl
+reply_line v lane (Ok (Again number total)) = refl
+reply_line v lane (Err k) = refl
 
 -- ---- every printed line
 

@@ -1,21 +1,23 @@
 -- Digits written from the right, and a form from the left.
 -- Assumes nothing.
 use Prim.Native.Nat.{ℕ, zero, suc, ◌+◌, ◌-◌, ◌/◌, ◌%◌, ◌^◌, ◌≤◌, ◌<◌}
-use mathlib.Core.Path.{◌≡◌, refl, sym, ap, ◌∙◌, subst, subst⁻¹}
+use mathlib.Core.Path.{◌≡◌, refl, sym, ap, ◌∙◌, subst⁻¹}
 use mathlib.Core.List.{List, [], ◌∷◌, ◌++◌, append_assoc, append-nil}
-use native.Mathlib.Nat.{sub-zero, add-zero}
+use native.Mathlib.Nat.{sub-zero, sub_self, add-zero}
+use Rattle.std.specs.Prelude.{Some, None, ◌⊎◌}
+use Rattle.std.proofs.lemmas.Slice.{take-put_mid, drop-put_mid}
+use borrow.Rule.Slice.PartMut.{put_mid}
 use native.Mathlib.Numerals.{add-one}
 use native.Mathlib.Omega.{arith}
 use lib.Dec.{lit≤}
-use borrow.Author.Tests.{ne_eqb}
 use lib.ListN.{length, drop, take, set, get_or, take-append-drop, length-append, length-drop, drop_of_length-le}
-use lib.Seq.{take-suc, append_snoc, set_at, length-take-le, drop-cons, drop-drop, take_at, drop_at, set_split}
+use lib.Seq.{take-suc, append_snoc, set_at, length-take-le, drop-cons, drop-drop, take_at, drop_at, set_split, take-length}
+use Rattle.std.proofs.Math.Logic.{⊎_elim}
 use Rattle.script_form.specs.Digits.{digit, fixed, place}
 use Rattle.script_form.specs.Form.{Piece, letter, number, digits, piece_of, first, rest, fill, fill_piece}
 use Rattle.script_form.proofs.Lengths.{div_step, decimal-fixed, length-fixed}
-use Rattle.script_answers.specs.inner.Pieces.{text_of, values_taken, shape_text, shape_taken, BaseFits, Shapes, put_at}
-use Rattle.script_answers.specs.declared.form.Shape.{Shape}
-use Rattle.script_answers.specs.declared.form.Shape.TheVariants.{Letter, Digits}
+use Rattle.script_answers.specs.inner.Pieces.{text_of, values_taken, Shapes, put_at}
+use Rattle.script_answers.specs.declared.form.Digits.{Digits}
 
 -- ---- digits
 
@@ -24,29 +26,32 @@ set_front l r m x h =
     rw (take-suc l m 0 h, append_snoc (take m l) (get_or l m 0) r)
     (set_at (take m l) (get_or l m 0) r x m (length-take-le m l (omega arith)))
 
--- k digits of n in base b from at on, of which the lowest are done
-module _ (l : List ℕ) (at b k n : ℕ) where
-  pub none_written : l ≡ take (at + (k - 0)) l ++ (fixed b 0 n ++ drop (at + k) l)
-  unfolding fixed
-  none_written = rw (sub-zero k) (sym (take-append-drop (at + k) l))
+-- the lowest digits of n in base b, written over l from the right as far as i
+module _ (l : List ℕ) (b n : ℕ) where
+  pub written : ℕ → List ℕ
+  written i = take i l ++ fixed b (length l - i) n
 
-  module _ (out : List ℕ) (done v : ℕ) (more : done < k) (room : at + k ≤ length l) (e : v ≡ n / b ^ done) where
-    pub taken_more : v / b ≡ n / b ^ (done + 1)
-    taken_more = rw (add-one done, div_step b done n, e)
+  pub none_written : l ≡ written (length l)
+  unfolding written fixed
+  none_written = rw (sub_self (length l), take-length l) (sym (append-nil l))
 
-    pub written_more : out ≡ take (at + (k - done)) l ++ (fixed b done n ++ drop (at + k) l)
-        → set out (at + (k - 1 - done)) (digit (v % b)) ≡ take (at + (k - (done + 1))) l ++ (fixed b (done + 1) n ++ drop (at + k) l)
-    unfolding fixed
-    written_more f =
-        let t : at + (k - done) ≡ suc (at + (k - 1 - done)) = omega arith in
-        let u : k - (done + 1) ≡ k - 1 - done = omega arith in
-        rw (f, u, add-one done, t, e) (set_front l (fixed b done n ++ drop (at + k) l) (at + (k - 1 - done)) (digit (n / b ^ done % b)) (omega arith))
+  pub all_written : written 0 ≡ fixed b (length l) n
+  unfolding written
+  all_written = rw (sub-zero (length l))
 
-  pub all_written : (out : List ℕ) (done : ℕ) → k ≤ done → done ≤ k → out ≡ take (at + (k - done)) l ++ (fixed b done n ++ drop (at + k) l) → out ≡ take at l ++ (fixed b k n ++ drop (at + k) l)
-  all_written out done h g e =
-      let z : at + (k - done) ≡ at = omega arith in
-      let d : done ≡ k = omega arith in
-      rw (z, d) at e
+  module _ (i left : ℕ) (h : 0 < i) (inside : i ≤ length l) (e : left ≡ n / b ^ (length l - i)) where
+    pub left_next : left / b ≡ n / b ^ (length l - (i - 1))
+    left_next =
+        let k : length l - (i - 1) ≡ suc (length l - i) = omega arith in
+        rw (k, div_step b (length l - i) n, e)
+
+    pub written_next : (out : List ℕ) → out ≡ written i → set out (i - 1) (digit (left % b)) ≡ written (i - 1)
+    unfolding written fixed
+    written_next out f =
+        let k : length l - (i - 1) ≡ suc (length l - i) = omega arith in
+        let m : suc (i - 1) ≡ i = omega arith in
+        rw (k, e) (ap (λ (x : List ℕ). set x (i - 1) (digit (n / b ^ (length l - i) % b))) (f ∙ ap (λ (x : ℕ). take x l ++ fixed b (length l - i) n) (sym m))
+        ∙ set_front l (fixed b (length l - i) n) (i - 1) (digit (n / b ^ (length l - i) % b)) (omega arith))
 
 -- ---- a form
 
@@ -132,42 +137,44 @@ form_end d form vs f n out start whole at h inside i g =
     let k : at ≡ length whole = sym (length-take-le at out inside) ∙ ap length b in
     (k, sym (take-append-drop at out) ∙ rw (b, g, k))
 
-pub letter_written : (l : List ℕ) (at p : ℕ) → at < length l → set l at p ≡ put_at at (p ∷ []) l
-letter_written l at p h = set_split l at p h ∙ rw (add-one at)
-
 -- ---- how a byte of a form is written
 
-module _ (d p v : ℕ) where
-  pub number_shape : (k max : ℕ) → k ≡ place 19 v → piece_of d p ≡ number max → Shapes (Digits 10 (k + 1)) (piece_of d p) p v
-  number_shape k max e f =
-      subst⁻¹ (λ (q : Piece). Shapes (Digits 10 (k + 1)) q p v) f (record { text = rw e (sym (decimal-fixed v)); takes = refl; base = (lit≤ tt, lit≤ tt) })
+pub number_shape : (d p v k : ℕ) → k ≡ place 19 v → (p ≡ 35) ⊎ (p ≡ 37) → Shapes (Some (record { base = 10; count = k + 1 })) (piece_of d p) p v
+number_shape d p v k e f = ⊎_elim (λ (g : p ≡ 35). of 35 4294967295 g refl) (λ (g : p ≡ 37). of 37 255 g refl) f
+  where
+    of : (x max : ℕ) → p ≡ x → piece_of d x ≡ number max → Shapes (Some (record { base = 10; count = k + 1 })) (piece_of d p) p v
+    of x max g h =
+        subst⁻¹ (λ (q : Piece). Shapes (Some (record { base = 10; count = k + 1 })) q p v) (ap (piece_of d) g ∙ h)
+        (record { text = rw e (sym (decimal-fixed v)); takes = refl; base = (lit≤ tt, lit≤ tt) })
 
-  pub digits_shape : (k : ℕ) → piece_of d p ≡ digits k → Shapes (Digits 16 k) (piece_of d p) p v
-  digits_shape k f = subst⁻¹ (λ (q : Piece). Shapes (Digits 16 k) q p v) f (record { text = refl; takes = refl; base = (lit≤ tt, lit≤ tt) })
+-- what the byte's writer knows of its digits
+module _ (q : Piece) (p v at : ℕ) (out : List ℕ) where
+  pub record Put (at' taken : ℕ) (out' : List ℕ) : Type 0 where
+    pub next : at' ≡ at + length (text_of q p v)
+    pub takes : taken ≡ values_taken q
+    pub written : out' ≡ put_at at (text_of q p v) out
 
-  pub letter_shape : (p ≡ 35 → ⊥) → (p ≡ 37 → ⊥) → (p ≡ 38 → ⊥) → (p ≡ 36 → ⊥) → (p ≡ 42 → ⊥) → Shapes Letter (piece_of d p) p v
-  letter_shape a b c e f =
-      let q : piece_of d p ≡ letter = rw (ne_eqb p 35 a, ne_eqb p 37 b, ne_eqb p 38 c, ne_eqb p 36 e, ne_eqb p 42 f) in
-      subst⁻¹ (λ (x : Piece). Shapes Letter x p v) q (record { text = refl; takes = refl; base = tt })
+  pub letter_put : Shapes None q p v → at < length out → Put (at + 1) 0 (set out at p)
+  letter_put h room =
+      record {
+        next = ap (λ (t : List ℕ). at + length t) h.text;
+        takes = h.takes;
+        written = set_split out at p room ∙ rw (add-one at) refl ∙ ap (λ (t : List ℕ). put_at at t out) h.text;
+      }
 
--- what the byte's writer knows of its shape
-module _ (s : Shape) (d p v : ℕ) (h : Shapes s (piece_of d p) p v) where
-  pub as_letter : s ≡ Letter → (p ∷ [] ≡ text_of (piece_of d p) p v) × (0 ≡ values_taken (piece_of d p))
-  as_letter e = (ap (λ (x : Shape). shape_text x p v) (sym e) ∙ h.text, ap shape_taken (sym e) ∙ h.takes)
+  module _ (x : Digits) (h : Shapes (Some x) q p v) where
+    pub digits_size : length (text_of q p v) ≡ x.count
+    digits_size = sym (ap length h.text) ∙ length-fixed x.base x.count v
 
-  pub record AsDigits (base count : ℕ) : Type 0 where
-    pub text : fixed base count v ≡ text_of (piece_of d p) p v
-    pub takes : 1 ≡ values_taken (piece_of d p)
-    pub size : length (text_of (piece_of d p) p v) ≡ count
-    pub least : 1 ≤ base
-    pub most : base ≤ 16
-
-  pub as_digits : (base count : ℕ) → s ≡ Digits base count → AsDigits base count
-  as_digits base count e =
-      let t = ap (λ (x : Shape). shape_text x p v) (sym e) ∙ h.text in
-      let b = subst BaseFits e h.base in
-      record { text = t; takes = ap shape_taken (sym e) ∙ h.takes; size = sym (ap length t) ∙ length-fixed base count v; least = b.0; most = b.1 }
-
-  pub digits_put : (base count : ℕ) → AsDigits base count → (at : ℕ) (out : List ℕ)
-      → take at out ++ (fixed base count v ++ drop (at + count) out) ≡ put_at at (text_of (piece_of d p) p v) out
-  digits_put base count l at out = rw (l.size, l.text)
+    pub digits_put : (end k : ℕ) (ys : List ℕ) → end ≡ at + x.count → k ≡ x.count → at + x.count ≤ length out → ys ≡ fixed x.base x.count v → Put end 1 (put_mid at k out ys)
+    digits_put end k ys e f room g =
+        let ly : length ys ≡ x.count = ap length g ∙ length-fixed x.base x.count v in
+        let t : take end (put_mid at k out ys) ≡ take at out ++ ys = take-put_mid at k out ys end (omega arith) (omega arith) in
+        let d : drop end (put_mid at k out ys) ≡ drop end out = drop-put_mid at k out ys end (omega arith) (omega arith) (omega arith) in
+        let y : ys ≡ text_of q p v = g ∙ h.text in
+        let z : end ≡ at + length (text_of q p v) = e ∙ ap (λ (i : ℕ). at + i) (sym digits_size) in
+        record {
+          next = z;
+          takes = h.takes;
+          written = sym (take-append-drop end (put_mid at k out ys)) ∙ (λ i. t i ++ d i) ∙ append_assoc (take at out) ys (drop end out) ∙ (λ i. take at out ++ (y i ++ drop (z i) out));
+        }

@@ -1,41 +1,38 @@
 // A form with its values, written from left to right.
-ghost use Rattle.std.specs.Prelude.{◌≡◌, [], ◌∷◌, ◌++◌, ◌+◌, ◌<◌, ◌≤◌, length, get_or, take, drop};
+ghost use Rattle.std.specs.Prelude.{◌≡◌, [], ◌∷◌, ◌++◌, ◌+◌, ◌<◌, ◌≤◌, length, slice_index, take, drop};
 ghost use Rattle.script_form.specs.Digits.{digit, fixed, place};
 ghost use Rattle.script_form.specs.Form.{piece_of, fill};
 ghost use Rattle.script_answers.specs.inner.Pieces.{text_of, values_taken, Shapes, put_at};
 
-// How a byte of a form is written: as itself, or a value's lowest digits in a base.
+// A value's lowest digits in a base.
 #[derive(Clone, Copy)]
-pub enum Shape {
-    Letter,
-    Digits { base: u64, count: usize },
+pub struct Digits {
+    pub base: u64,
+    pub count: usize,
 }
 
 // The digit of value `d`.
+#[tactic(auto, unfolding(script_form::specs::Digits::digit))]
 fn digit_of(d: u64) -> u8
     requires { d < 16 }
     ensures { result ≡ digit d }
 {
     if d < 10 {
-        48 + (d as u8)
+        b'0' + (d as u8)
     } else {
-        87 + (d as u8)
+        b'a' + ((d - 10) as u8)
     }
 }
 
-// The lowest `count` digits of `value` in base `base`, from `at` on.
-fn put_digits(out: &mut [u8], at: usize, base: u64, count: usize, value: u64)
-    requires { (at + count ≤ length out.old) × (1 ≤ base) × (base ≤ 16) }
-    ensures { out.new ≡ take at out.old ++ (fixed base count value ++ drop (at + count) out.old) }
+// The lowest digits of `value` in base `base`, as many as there is room for.
+fn put_digits(out: &mut [u8], base: u64, value: u64)
+    requires { (1 ≤ base) × (base ≤ 16) }
+    ensures { out.new ≡ fixed base (length out.old) value }
 {
-    let mut v = value;
-    let mut done: usize = 0;
-    while done < count {
-        let left = count - 1 - done;
-        let i = at + left;
-        out[i] = digit_of(v % base);
-        v = v / base;
-        done += 1;
+    let mut left = value;
+    for i in (0..out.len()).rev() {
+        out[i] = digit_of(left % base);
+        left = left / base;
     }
 }
 
@@ -43,42 +40,21 @@ fn put_digits(out: &mut [u8], at: usize, base: u64, count: usize, value: u64)
 fn places(value: u64) -> usize
     ensures { (result ≡ place 19 value) × (result ≤ 19) }
 {
-    let mut k: usize = 0;
-    let mut v = value;
-    while 10 <= v {
-        v = v / 10;
-        k += 1;
-    }
-    k
+    value.max(1).ilog10() as usize
 }
 
-// How the byte `p` of a form is written with the value `v`, where a block has `digits` digits.
-fn shape_of(p: u8, v: u64, digits: usize) -> Shape
+// How the byte `p` of a form is written with the value `v`, where a block has `digits` digits; `None` is as itself.
+fn shape_of(p: u8, v: u64, digits: usize) -> Option<Digits>
     ensures { Shapes result (piece_of digits p) p v }
 {
-    match p {
-        b'#' => Shape::Digits {
-            base: 10,
-            count: places(v) + 1,
-        },
-        b'%' => Shape::Digits {
-            base: 10,
-            count: places(v) + 1,
-        },
-        b'&' => Shape::Digits {
-            base: 16,
-            count: 20,
-        },
-        b'$' => Shape::Digits {
-            base: 16,
-            count: 16,
-        },
-        b'*' => Shape::Digits {
-            base: 16,
-            count: digits,
-        },
-        _ => Shape::Letter,
-    }
+    let (base, count) = match p {
+        b'#' | b'%' => (10, places(v) + 1),
+        b'&' => (16, 20),
+        b'$' => (16, 16),
+        b'*' => (16, digits),
+        _ => return None,
+    };
+    Some(Digits { base, count })
 }
 
 // The place after a byte of a form, and how many values it took.
@@ -95,44 +71,34 @@ fn put_piece(out: &mut [u8], at: usize, p: u8, v: u64, digits: usize) -> Put
         × (out.new ≡ put_at at (text_of (piece_of digits p) p v) out.old) }
 {
     match shape_of(p, v, digits) {
-        Shape::Letter => {
+        None => {
             out[at] = p;
             Put {
                 at: at + 1,
                 taken: 0,
             }
         }
-        Shape::Digits { base, count } => {
-            put_digits(out, at, base, count, v);
-            Put {
-                at: at + count,
-                taken: 1,
-            }
+        Some(shape) => {
+            let end = at + shape.count;
+            put_digits(&mut out[at..end], shape.base, v);
+            Put { at: end, taken: 1 }
         }
     }
 }
 
-fn value_at(values: [u64; 3], n: usize) -> u64
-    ensures { result ≡ get_or values n 0 }
-{
-    if n < 3 { values[n] } else { 0 }
-}
-
 // A form with its values, at the start of `out`; how many bytes that is.
-pub fn write_form(form: &[u8], values: [u64; 3], digits: usize, out: &mut [u8]) -> usize
-    requires { length (fill digits form.now values) ≤ length out.old }
-    ensures { (result ≡ length (fill digits form.now values))
-        × (out.new ≡ fill digits form.now values ++ drop (length (fill digits form.now values)) out.old) }
+pub fn write_form(form: &[u8], values: &[u64], digits: usize, out: &mut [u8]) -> usize
+    requires { length (fill digits form.now values.now) ≤ length out.old }
+    ensures { (result ≡ length (fill digits form.now values.now))
+        × (out.new ≡ fill digits form.now values.now ++ drop (length (fill digits form.now values.now)) out.old) }
 {
     let mut at: usize = 0;
     let mut n: usize = 0;
-    let mut f: usize = 0;
-    while f < form.len() {
-        let v = value_at(values, n);
-        let put = put_piece(out, at, form[f], v, digits);
+    for p in form {
+        let v = values.get(n).copied().unwrap_or(0);
+        let put = put_piece(out, at, *p, v, digits);
         at = put.at;
         n = n + put.taken;
-        f += 1;
     }
     at
 }

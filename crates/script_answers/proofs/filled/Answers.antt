@@ -5,4 +5,4 @@ use Rattle.script_answers.proofs.filled.Goals as goal
 pub returns : goal.returns
 returns c =
     let a = c.args in
-    as_printed (fill a.digits a.form.now a.values) _ c.write_form-length.ensures.0 (rw c.no_bytes-bytes.ensures at c.write_form-length.ensures.1)
+    as_printed (fill a.digits a.form.now a.values.now) _ c.write_form-length.ensures.0 c.write_form-length.ensures.1

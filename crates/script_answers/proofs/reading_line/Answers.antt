@@ -1,20 +1,17 @@
-use Prim.Native.Nat.{ℕ, ◌≤◌}
-use mathlib.Core.Path.{ap, subst⁻¹, ◌∙◌}
-use mathlib.Core.List.{[], ◌∷◌}
+use Prim.Native.Nat.{◌≤◌}
+use mathlib.Core.Path.{subst⁻¹}
 use Rattle.script_form.proofs.Blocks.{digits_fit}
-use Rattle.script_answers.specs.Printed.{line_as, answer_line, printed_as}
+use Rattle.script_answers.specs.Printed.{answer_line}
 use Rattle.script_answers.proofs.Lines.{at_fits}
 use Rattle.script_answers.proofs.reading_line.Goals as goal
 
 pub filled-requires : goal.filled-requires
-filled-requires c = at_fits _ _ c.block_digits.result _ (subst⁻¹ (◌≤ 16) c.block_digits.ensures (digits_fit _))
+filled-requires c = at_fits c.from.result c.from-in-Ok.result c.block_digits.result _ (subst⁻¹ (◌≤ 16) c.block_digits.ensures (digits_fit _))
 
-pub returns-in-At : goal.returns-in-At
+pub returns-in-Ok : goal.returns-in-Ok
 unfolding answer_line
-returns-in-At c =
-    let r = c.in-At.reading in
-    rw c.in-At.is (c.filled.ensures ∙ ap (λ (d : ℕ). printed_as (line_as d "(at % % *)" (c.args.lane ∷ r.position.0 ∷ r.registers ∷ []))) c.block_digits.ensures)
+returns-in-Ok c = rw (c.in-Ok.is, ← c.from.ensures, ← c.from-in-Ok.ensures, ← c.block_digits.ensures) c.filled.ensures
 
-pub returns-in-Refused : goal.returns-in-Refused
+pub returns-in-Err : goal.returns-in-Err
 unfolding answer_line
-returns-in-Refused c = rw c.in-Refused.is c.refused_line.ensures
+returns-in-Err c = rw c.in-Err.is c.refused_line.ensures

@@ -10,4 +10,4 @@ filled-requires c = refused_fits _ 0
 
 pub returns : goal.returns
 unfolding answer_line
-returns c = c.filled.ensures ∙ ap (λ (n : ℕ). printed_as (answer_line 0 0 (refused n))) c.refusal_number-number.ensures
+returns c = c.filled.ensures ∙ ap (λ (n : ℕ). printed_as (answer_line 0 0 (refused n))) (c.from.ensures ∙ c.from-number.ensures)

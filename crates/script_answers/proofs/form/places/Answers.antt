@@ -1,19 +1,14 @@
+use Prim.Native.Nat.{◌^◌, ◌<◌, ◌≤◌, suc}
 use mathlib.Core.Path.{sym}
+use native.Mathlib.Nat.{pow-suc}
 use native.Mathlib.Omega.{arith}
-use Rattle.script_form.proofs.Lengths.{div_none, place_up, place_few, place_next, place_end}
+use Rattle.script_form.proofs.Lengths.{ten, place_is}
 use Rattle.script_answers.proofs.form.places.Goals as goal
 
-pub loop-v-init : goal.loop-v-init
-loop-v-init c = (sym (div_none 10 _), omega arith, omega arith)
-
-pub loop-v-preserved : goal.loop-v-preserved
-loop-v-preserved c =
-    let fits = c.ranges.value.fits in
-    let was = c.loop-v.invariant.0 in (
-      place_next _ _ _ fits was,
-      (λ h. place_up _ _ _ fits was c.loop-v-test.true),
-      place_few _ _ _ fits was c.loop-v-test.true c.loop-v.invariant.2,
-    )
-
 pub returns : goal.returns
-returns c = (place_end _ _ _ c.ranges.value.fits c.loop-v.invariant.0 c.loop-v.invariant.1 c.loop-v.invariant.2 c.loop-v-test.false, c.loop-v.invariant.2)
+returns c =
+    let k = c.ilog10.result in
+    let n = c.args.value in
+    let low : 0 < k → 10 ^ k ≤ n = λ h. omega (arith, ten 1 k h, c.ilog10.ensures.power_le, c.max.ensures) in
+    let high : n < 10 ^ suc k = omega (arith, pow-suc 10 k, c.ilog10.ensures.next_power_gt, c.max.ensures) in
+    (sym (place_is 19 k n (omega arith) low high), omega arith)

@@ -1,14 +1,9 @@
-use Prim.Native.Nat.{◌+◌, ◌-◌, ◌/◌, ◌^◌, ◌≤◌}
+use Prim.Native.Nat.{◌-◌, ◌/◌, ◌^◌}
 use mathlib.Core.Path.{◌≡◌}
-use mathlib.Core.List.{◌++◌}
-use lib.ListN.{length, take, drop}
-use Rattle.script_form.specs.Digits.{fixed}
+use lib.ListN.{length}
+use Rattle.script_answers.proofs.Writing.{written}
 use Rattle.script_answers.proofs.form.put_digits.Given as goal
 
-abbrev pub invariant-loop-done : goal.invariant-loop-done
-invariant-loop-done l =
-    (l.done ≤ l.count) × (length l.out ≡ length l.initial.out) × (l.v ≡ l.value / l.base ^ l.done)
-    × (l.out ≡ take (l.at + (l.count - l.done)) l.initial.out ++ (fixed l.base l.done l.value ++ drop (l.at + l.count) l.initial.out))
-
-abbrev pub decreases-loop-done : goal.decreases-loop-done
-decreases-loop-done l = l.count - l.done
+abbrev pub invariant-loop-i : goal.invariant-loop-i
+invariant-loop-i l =
+    (l.left ≡ l.value / l.base ^ (length l.initial.out - l.i)) × (l.out ≡ written l.initial.out l.base l.value l.i)
