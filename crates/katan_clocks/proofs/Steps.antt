@@ -32,7 +32,7 @@ module _ (v : Row) (c : ℕ) (w : RoundInput) (s : Registers) {a b x y : ℕ} wh
   gone_back e f g h = cc
 
 -- what holds of each of the three rows holds of a row of the table
-by_row : (P : Row → Type 0) → P row32 → P row48 → P row64 → (v : Row) → IsRow v → P v
+pub by_row : (P : Row → Type 0) → P row32 → P row48 → P row64 → (v : Row) → IsRow v → P v
 by_row P a b c v k = ⊎_elim (λ e. subst P (sym e) a) (λ h. ⊎_elim (λ e. subst P (sym e) b) (λ e. subst P (sym e) c) h) k
 
 pub sound_row : (v : Row) → IsRow v → Sound v

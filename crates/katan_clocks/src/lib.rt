@@ -6,14 +6,13 @@ ghost use Rattle.std.specs.Prelude.{◌≡◌, ◌<◌, ◌≤◌, ◌+◌, ◌^
 ghost use Rattle.katan.specs.Bit.{xor, and};
 ghost use Rattle.katan.specs.Clock.{fa as fa_of, fb as fb_of, fa_rest, fb_rest, round as round_of, unround as unround_of};
 ghost use Rattle.katan.specs.Sizes.{word_bits};
-ghost use Rattle.katan.specs.Variant.{row_of};
 ghost use Rattle.katan.specs.inner.Within.{Sound};
 ghost use Rattle.katan_clocks.specs.Clocks.{lowest, clocks_by, unclocks_by};
 ghost use Rattle.katan.specs.Stride.{stride_clocks};
 ghost use Rattle.katan_clocks.specs.inner.Words.{tap as tap_of, enter as enter_of, restore as restore_of, without as without_of, in_each};
 
 use katan::{Registers, RoundInput, Row};
-use katan_variants::{Bits32, Bits48, Bits64, Width};
+use katan_variants::Width;
 
 // Clocks that are worked at once: a row, and so many of its clocks that each finds at its taps bits which were there before the first.
 #[derive(Clone, Copy)]
@@ -175,14 +174,14 @@ fn in_each(c: usize, u: RoundInput) -> RoundInput
 }
 
 // A stride: four rounds of 32-bit blocks, three of the others.
-pub fn stride_at<W: Width>(w: RoundInput, s: Registers) -> Registers
+pub fn stride<W: Width>(w: RoundInput, s: Registers) -> Registers
     ensures { result ≡ clocks_by W.Width.row (stride_clocks W.Width.row) w s }
 {
     Clocks::of_stride::<W>().go(w, s)
 }
 
 // The same undone, at once or round by round.
-pub fn unstride_at<W: Width>(w: RoundInput, s: Registers) -> Registers
+pub fn unstride<W: Width>(w: RoundInput, s: Registers) -> Registers
     ensures { result ≡ unclocks_by W.Width.row (stride_clocks W.Width.row) w s }
 {
     let all = Clocks::of_stride::<W>();
@@ -198,7 +197,7 @@ pub fn unstride_at<W: Width>(w: RoundInput, s: Registers) -> Registers
 }
 
 // One round, with the lowest bits of its input.
-pub fn round_at<W: Width>(u: RoundInput, s: Registers) -> Registers
+pub fn round<W: Width>(u: RoundInput, s: Registers) -> Registers
     ensures { result ≡ round_of W.Width.row (lowest u) s }
 {
     let one = Clocks::of_round::<W>();
@@ -206,30 +205,9 @@ pub fn round_at<W: Width>(u: RoundInput, s: Registers) -> Registers
 }
 
 // The same undone.
-pub fn unround_at<W: Width>(u: RoundInput, s: Registers) -> Registers
+pub fn unround<W: Width>(u: RoundInput, s: Registers) -> Registers
     ensures { result ≡ unround_of W.Width.row (lowest u) s }
 {
     let one = Clocks::of_round::<W>();
     one.go_back(in_each(one.count, u), s)
-}
-
-// One round of a variant, and the same undone.
-pub fn round(variant: u8, u: RoundInput, s: Registers) -> Registers
-    ensures { result ≡ round_of (row_of variant) (lowest u) s }
-{
-    match variant {
-        2 | 5 => round_at::<Bits48>(u, s),
-        3 | 6 => round_at::<Bits64>(u, s),
-        _ => round_at::<Bits32>(u, s),
-    }
-}
-
-pub fn unround(variant: u8, u: RoundInput, s: Registers) -> Registers
-    ensures { result ≡ unround_of (row_of variant) (lowest u) s }
-{
-    match variant {
-        2 | 5 => unround_at::<Bits48>(u, s),
-        3 | 6 => unround_at::<Bits64>(u, s),
-        _ => unround_at::<Bits32>(u, s),
-    }
 }

@@ -5,11 +5,11 @@
 ghost use Rattle.std.specs.Prelude.{◌≡◌, ◌≤◌};
 ghost use Rattle.katan.specs.Bit.{bit};
 ghost use Rattle.katan.specs.Key.{key_number, key_bits};
-ghost use Rattle.katan.specs.Variant.{row_of};
 ghost use Rattle.katan.specs.Stride.{stride_of};
-ghost use Rattle.katan_keys.specs.Window.{window_number, longest_step, slid, ahead as ahead_of, behind as behind_of, times, source_at, next_source, previous_source};
+ghost use Rattle.katan_keys.specs.Window.{window_number, longest_step, slid, ahead, behind, times, source_at, next_source, previous_source};
 
 use katan::{Key, RoundPosition};
+use katan_variants::Width;
 
 // What a round finds its key bits in, a KATAN's window or a KTANTAN's key: bits 0 to 63, and 64 to 79. Both are words: the
 // empty bytes of an uneven struct would be copied in each round.
@@ -19,19 +19,79 @@ pub struct Window {
     pub high: u64,
 }
 
-// The rounds of a step on the way to a position.
-const STRIDE: usize = 6;
+// A step: some rounds at once, no more than the nearest bit of the rule allows.
+#[derive(Clone, Copy)]
+pub struct Step {
+    pub rounds: usize,
+    ghost some: { 1 ≤ rounds },
+    ghost few: { rounds ≤ longest_step },
+}
 
-// The window c rounds on, whatever enters: its lowest bits leave, and those of e enter at the top.
-fn slide_by(c: usize, w: Window, e: u64) -> Window
-    requires { (1 ≤ c) × (c ≤ longest_step) }
-    ensures { window_number result ≡ slid c e (window_number w) }
-{
-    let s = 2 * c;
-    let entering = e % (1 << s);
-    Window {
-        low: (w.high << (64 - s)) | (w.low >> s),
-        high: (w.high >> s) + (entering << (16 - s)),
+// The rounds of a step on the way to a position.
+const LONGEST: usize = 6;
+
+impl Step {
+    pub fn round() -> Step
+        ensures { result.rounds ≡ 1 }
+    {
+        Step { rounds: 1 }
+    }
+
+    pub fn stride<W: Width>() -> Step
+        ensures { result.rounds ≡ stride_of W.Width.row }
+    {
+        Step {
+            rounds: katan_variants::stride::<W>(),
+        }
+    }
+}
+
+impl Window {
+    // The window a step on, whatever enters: its lowest bits leave, and those of e enter at the top.
+    fn slid(self, step: Step, e: u64) -> Window
+        ensures { window_number result ≡ slid step.rounds e (window_number self) }
+    {
+        let s = 2 * step.rounds;
+        let entering = e % (1 << s);
+        Window {
+            low: (self.high << (64 - s)) | (self.low >> s),
+            high: (self.high >> s) + (entering << (16 - s)),
+        }
+    }
+
+    // The window a step on: what enters follows by the rule.
+    fn ahead(self, step: Step) -> Window
+        ensures { window_number result ≡ ahead step.rounds (window_number self) }
+    {
+        self.slid(
+            step,
+            self.low ^ (self.low >> 19) ^ (self.low >> 30) ^ (self.high >> 3),
+        )
+    }
+
+    // The window a step back: it moves up, and the bits that had left follow by the rule read backwards.
+    fn behind(self, step: Step) -> Window
+        ensures { window_number result ≡ behind step.rounds (window_number self) }
+    {
+        let s = 2 * step.rounds;
+        let low = self.low << s;
+        let high = (self.high << s) | (self.low >> (64 - s));
+        let returning = ((high >> 16) ^ (high >> 3) ^ (low >> 30) ^ (low >> 19)) % (1 << s);
+        Window {
+            low: low | returning,
+            high: high % 0x1_0000,
+        }
+    }
+
+    // The window n steps on.
+    fn after(self, n: usize, step: Step) -> Window
+        ensures { window_number result ≡ times n (ahead step.rounds) (window_number self) }
+    {
+        let mut t = self;
+        for _ in 0..n {
+            t = t.ahead(step);
+        }
+        t
     }
 }
 
@@ -39,42 +99,7 @@ fn slide_by(c: usize, w: Window, e: u64) -> Window
 pub fn slide(w: Window, e: u64) -> Window
     ensures { window_number result ≡ slid 1 e (window_number w) }
 {
-    slide_by(1, w, e)
-}
-
-// The window c rounds on: what enters follows by the rule.
-fn ahead(c: usize, w: Window) -> Window
-    requires { (1 ≤ c) × (c ≤ longest_step) }
-    ensures { window_number result ≡ ahead_of c (window_number w) }
-{
-    slide_by(c, w, w.low ^ (w.low >> 19) ^ (w.low >> 30) ^ (w.high >> 3))
-}
-
-// The window c rounds back: it moves up, and the bits that had left follow by the rule read backwards.
-fn behind(c: usize, w: Window) -> Window
-    requires { (1 ≤ c) × (c ≤ longest_step) }
-    ensures { window_number result ≡ behind_of c (window_number w) }
-{
-    let s = 2 * c;
-    let low = w.low << s;
-    let high = (w.high << s) | (w.low >> (64 - s));
-    let returning = ((high >> 16) ^ (high >> 3) ^ (low >> 30) ^ (low >> 19)) % (1 << s);
-    Window {
-        low: low | returning,
-        high: high % 0x1_0000,
-    }
-}
-
-// n steps of c rounds each.
-fn steps(n: usize, c: usize, w: Window) -> Window
-    requires { (1 ≤ c) × (c ≤ longest_step) }
-    ensures { window_number result ≡ times n (ahead_of c) (window_number w) }
-{
-    let mut t = w;
-    for _ in 0..n {
-        t = ahead(c, t);
-    }
-    t
+    w.slid(Step::round(), e)
 }
 
 // The key itself, in two words.
@@ -83,7 +108,7 @@ pub fn key_words(key: Key) -> Window
 {
     Window {
         low: key.low,
-        high: key.high as u64,
+        high: u64::from(key.high),
     }
 }
 
@@ -93,49 +118,29 @@ pub fn source_at(variant: u8, key: Key, at: RoundPosition) -> Window
 {
     let first = key_words(key);
     if katan_variants::is_katan(variant) {
-        let p = at.0 as usize;
-        return steps(p % STRIDE, 1, steps(p / STRIDE, STRIDE, first));
+        let p = usize::from(at.0);
+        let near = first.after(p / LONGEST, Step { rounds: LONGEST });
+        return near.after(p % LONGEST, Step::round());
     }
     first
 }
 
-// The same a round later, and a round earlier.
-pub fn next_source(variant: u8, w: Window) -> Window
-    ensures { window_number result ≡ next_source variant 1 (window_number w) }
+// The same a step later, and a step earlier.
+pub fn next_source(variant: u8, step: Step, w: Window) -> Window
+    ensures { window_number result ≡ next_source variant step.rounds (window_number w) }
 {
     if katan_variants::is_katan(variant) {
-        ahead(1, w)
+        w.ahead(step)
     } else {
         w
     }
 }
 
-pub fn previous_source(variant: u8, w: Window) -> Window
-    ensures { window_number result ≡ previous_source variant 1 (window_number w) }
+pub fn previous_source(variant: u8, step: Step, w: Window) -> Window
+    ensures { window_number result ≡ previous_source variant step.rounds (window_number w) }
 {
     if katan_variants::is_katan(variant) {
-        behind(1, w)
-    } else {
-        w
-    }
-}
-
-// The same a stride later, and a stride earlier.
-pub fn source_ahead(variant: u8, w: Window) -> Window
-    ensures { window_number result ≡ next_source variant (stride_of (row_of variant)) (window_number w) }
-{
-    if katan_variants::is_katan(variant) {
-        ahead(katan_variants::stride(variant), w)
-    } else {
-        w
-    }
-}
-
-pub fn source_behind(variant: u8, w: Window) -> Window
-    ensures { window_number result ≡ previous_source variant (stride_of (row_of variant)) (window_number w) }
-{
-    if katan_variants::is_katan(variant) {
-        behind(katan_variants::stride(variant), w)
+        w.behind(step)
     } else {
         w
     }

@@ -5,11 +5,11 @@ use mathlib.Core.Path.{◌≡◌, refl, sym, ap, ap₂, subst, ◌∙◌}
 use mathlib.Core.Bool.{Bool, true, false}
 use mathlib.Core.List.{List}
 use Prim.Native.Nat.{ℕ, zero, suc, ◌+◌, ◌-◌, ◌*◌, ◌/◌, ◌%◌, ◌^◌, ◌<◌, ◌≤◌}
-use native.Mathlib.Nat.{mod-eq_of_lt, zero-mul, zero-add, add-zero, add_assoc, suc-mul, add-mul, one-mul, div-add-mod', mul-le-mul_left, mul-le-mul_right}
+use native.Mathlib.Nat.{mod-eq_of_lt, lt_of_lt_of_le, add-zero, add_assoc, suc-mul, add-mul, one-mul, div-add-mod', mul-le-mul_left, mul-le-mul_right}
 use native.Mathlib.Omega.{arith}
 use borrow.Author.Tests.{leb-true, leb-false}
 use lib.ListN.{get_or}
-use lib.Pow.{pow_mono, shl_exact}
+use lib.Pow.{pow_mono, pow-add, shl_exact}
 use Rattle.katan.specs.Bit.{bit, pick, tabulate}
 use Rattle.katan.specs.Counter.{counter, ir_of, rounds}
 use Rattle.katan.specs.Variant.{row_of, is_katan, last_katan}
@@ -28,11 +28,14 @@ use Rattle.katan.proofs.Undo.{run_fits, unrun_fits, run_add, unrun_add}
 use Rattle.katan.proofs.Positions.{registers_fit}
 use Rattle.katan_keys.specs.Window.{window_number, longest_step, window_at, ahead, behind, source_at, next_source, previous_source}
 use Rattle.katan_keys.proofs.Running.{running_window}
+use Rattle.katan_variants.specs.Widths.{IsRow}
+use Rattle.katan_clocks.proofs.Steps.{by_row}
 use Rattle.katan_clocks.specs.Clocks.{lowest, clocks_by, unclocks_by}
 use Rattle.katan_clocks.specs.inner.Words.{beside, words_of}
 use Rattle.katan_clocks.proofs.Rounds.{inputs, same_input, rounds_by_words, unrounds_by_words}
 use Rattle.katan_registers.specs.declared.rounds.Running.{Running}
-use Rattle.katan_registers.specs.inner.Tables.{Tables, Named, KeyBits, table_input, key_bit, rounds_input, Moves, MovesBack}
+use Rattle.katan_registers.specs.inner.Tables.{KeyBits, table_input, key_bit, rounds_input}
+use Rattle.katan_registers.specs.inner.Moves.{Moves, MovesBack}
 
 -- ---- registers stay within their lengths
 
@@ -65,15 +68,16 @@ module _ (c : ℕ) (f g : ℕ → RoundInput) where
       = λ x. ap (λ (y : ℕ). y * (2 ^ c - 1)) (beside_same x n h) in
       same_input (all (λ u. u.ir)) (all (λ u. u.ka)) (all (λ u. u.kb))
 
-module _ (counters numbers : List ℕ) (ts : Tables counters numbers) where
-  pub named : Named numbers
-  named i h = rw (ts.1, entry key_bit_number (2 * rounds) i 0 h) (number_below i h)
+-- each entry of the second table numbers a bit of the key
+pub named : (numbers : List ℕ) → numbers ≡ tabulate key_bit_number 0 (2 * rounds) → (i : ℕ) → i < 2 * rounds → get_or numbers i 0 < key_length
+named numbers ns i h = rw (ns, entry key_bit_number (2 * rounds) i 0 h) (number_below i h)
 
+module _ (counters numbers : List ℕ) (cs : counters ≡ tabulate counter 0 rounds) (ns : numbers ≡ tabulate key_bit_number 0 (2 * rounds)) where
   module _ (v key : ℕ) where
     pub table-input : (r w : ℕ) → r < rounds → w ≡ source_at v key r → table_input v counters numbers r w ≡ input_of v key r
     table-input r w q h =
         ap (λ (x : ℕ). table_input v counters numbers r x) h
-        ∙ ap₂ (λ (x y : List ℕ). table_input v x y r (source_at v key r)) ts.0 ts.1
+        ∙ ap₂ (λ (x y : List ℕ). table_input v x y r (source_at v key r)) cs ns
         ∙ by_kind (is_katan v) refl
       where
         t : ir_of (get_or (tabulate counter 0 rounds) r 0) ≡ ir_of (counter r)
@@ -100,7 +104,7 @@ module _ (counters numbers : List ℕ) (ts : Tables counters numbers) where
       later_input j few q = by_kind (is_katan v) refl
         where
           ir : bit (get_or counters r 0) (7 - j) ≡ ir_of (counter (r + j))
-          ir = rw (ts.0, entry counter rounds r 0 (omega arith)) (ir_later r j (omega arith))
+          ir = rw (cs, entry counter rounds r 0 (omega arith)) (ir_later r j (omega arith))
 
           by_kind : (b : Bool) → is_katan v ≡ b → rounds_input v counters numbers bits r w j ≡ input_of v key (r + j)
           by_kind true s =
@@ -117,7 +121,7 @@ module _ (counters numbers : List ℕ) (ts : Tables counters numbers) where
               = λ i l.
               let place : 2 * r + i + 2 * j ≡ 2 * (r + j) + i = omega arith in
               let inside : 2 * (r + j) + i < 2 * rounds = omega arith in
-              ap₂ (λ (xs ys : List ℕ). get_or xs (get_or ys (2 * r + i + 2 * j) 0) 0) (picks s) ts.1
+              ap₂ (λ (xs ys : List ℕ). get_or xs (get_or ys (2 * r + i + 2 * j) 0) 0) (picks s) ns
               ∙ ap (λ (x : ℕ). get_or (key_bits key) (get_or (tabulate key_bit_number 0 (2 * rounds)) x 0) 0) place
               ∙ ap (λ (x : ℕ). get_or (key_bits key) x 0) (entry key_bit_number (2 * rounds) (2 * (r + j) + i) 0 inside)
               ∙ entry (bit key) key_length (key_bit_number (2 * (r + j) + i)) 0 (number_below (2 * (r + j) + i) inside) in
@@ -136,49 +140,44 @@ module _ (counters numbers : List ℕ) (ts : Tables counters numbers) where
         pub moved_back : unclocks_by (row_of v) (n * (row_of v).clocks) (words_of (row_of v).clocks (rounds_input v counters numbers bits r w) n) s ≡ unrun (row_of v) (input_of v key) r n s
         moved_back = ap (λ (x : RoundInput). unclocks_by (row_of v) (n * (row_of v).clocks) x s) words ∙ unrounds_by_words (row_of v) (input_of v key) (input_bits v key) r n s
 
--- ---- three numbers and four, as the code has them
+-- ---- a word of some rounds' bits, as the code has it
 
-pub three_beside : (c : ℕ) (f : ℕ → ℕ) {x y z : ℕ} → x ≡ f 0 → y ≡ f 1 → z ≡ f 2 → ((x * 2 ^ c + y) * 2 ^ c + z) * (2 ^ c - 1) ≡ beside c f 3 * (2 ^ c - 1)
-three_beside c f e g h = rw (e, g, h, zero-mul (2 ^ c), zero-add (f 0))
-
-pub four_beside : (f : ℕ → ℕ) {x y z t : ℕ} → x ≡ f 0 → y ≡ f 1 → z ≡ f 2 → t ≡ f 3 → ((x * 2 + y) * 2 + z) * 2 + t ≡ beside 1 f 4 * (2 ^ 1 - 1)
-four_beside f e g h i = rw (e, g, h, i) (omega arith)
-
--- the four highest bits of a byte
-pub four_irs : (t : ℕ) → t < 2 ^ 8 → t / 2 ^ 4 ≡ beside 1 (λ j. bit t (7 - j)) 4 * (2 ^ 1 - 1)
-four_irs t h =
-    let first : t / 128 ≡ t / 128 % 2 = omega arith in
-    let second : t / 64 ≡ t / 128 * 2 + t / 64 % 2 = omega arith in
-    let third : t / 32 ≡ t / 64 * 2 + t / 32 % 2 = omega arith in
-    let fourth : t / 16 ≡ t / 32 * 2 + t / 16 % 2 = omega arith in
-    omega (arith, first, second, third, fourth)
+pub stride_few : (v : Row) → IsRow v → stride_of v ≤ 4
+stride_few = by_row (λ v. stride_of v ≤ 4) (omega arith) (omega arith) (omega arith)
 
 -- numbers of a byte, c of 3 or less: nothing leaves the word
-module _ (c x y z : ℕ) (few : c ≤ 3) (p : x < 2 ^ 8) (q : y < 2 ^ 8) (r : z < 2 ^ 8) where
-  up : (a : ℕ) → a < 2 ^ 16 → (a * 2 ^ c) % 2 ^ 64 ≡ a * 2 ^ c
-  up a h = shl_exact {a = a} 16 c 64 h (omega arith)
+module _ (c a j x : ℕ) (few : c ≤ 3) (h : a < 2 ^ (8 + 4 * j)) (q : x < 2 ^ 8) where
+  most : a * 2 ^ c ≤ a * 8
+  most = mul-le-mul_left a (pow_mono {i = c} {j = 3} few)
 
-  most : (a : ℕ) → a * 2 ^ c ≤ a * 8
-  most a = mul-le-mul_left a (pow_mono {i = c} {j = 3} few)
+  pub grows : a * 2 ^ c + x < 2 ^ (8 + 4 * (j + 1))
+  grows =
+      let place : 8 + 4 * (j + 1) ≡ 8 + 4 * j + 4 = omega arith in
+      let up : 2 ^ (8 + 4 * (j + 1)) ≡ 2 ^ (8 + 4 * j) * 16 = ap (λ (n : ℕ). 2 ^ n) place ∙ pow-add 2 (8 + 4 * j) 4 in
+      let low : 2 ^ 8 ≤ 2 ^ (8 + 4 * j) = pow_mono {i = 8} {j = 8 + 4 * j} (omega arith) in
+      omega (arith, most, up, low)
 
-  pub two_fit : (x * 2 ^ c) % 2 ^ 64 + y < 2 ^ 64
-  two_fit = omega (arith, up x (omega arith), most x)
+  -- with j of 3 or less
+  module _ (near : j ≤ 3) where
+    small : a < 2 ^ 20
+    small = lt_of_lt_of_le h (pow_mono {i = 8 + 4 * j} {j = 20} (omega arith))
 
-  two : (((x * 2 ^ c) % 2 ^ 64 + y) * 2 ^ c) % 2 ^ 64 ≡ (x * 2 ^ c + y) * 2 ^ c
-  two = ap (λ (a : ℕ). ((a + y) * 2 ^ c) % 2 ^ 64) (up x (omega arith)) ∙ up (x * 2 ^ c + y) (omega (arith, most x))
+    pub shifted : (a * 2 ^ c) % 2 ^ 64 ≡ a * 2 ^ c
+    shifted = shl_exact {a = a} 20 c 64 small (omega arith)
 
-  pub three_fit : (((x * 2 ^ c) % 2 ^ 64 + y) * 2 ^ c) % 2 ^ 64 + z < 2 ^ 64
-  three_fit = omega (arith, two, most (x * 2 ^ c + y), most x)
+    pub next_fits : (a * 2 ^ c) % 2 ^ 64 + x < 2 ^ 64
+    next_fits = omega (arith, shifted, most, small)
 
-  pub three_filled : ((((x * 2 ^ c) % 2 ^ 64 + y) * 2 ^ c) % 2 ^ 64 + z) * ((1 * 2 ^ c) % 2 ^ 64 - 1) ≡ ((x * 2 ^ c + y) * 2 ^ c + z) * (2 ^ c - 1)
-  three_filled = ap₂ (λ (a b : ℕ). (a + z) * (b - 1)) two (one_shifted c (omega arith))
+-- and each in c places
+module _ (c a : ℕ) (few : c ≤ 3) (h : a < 2 ^ 24) where
+  pub filled : a * ((1 * 2 ^ c) % 2 ^ 64 - 1) ≡ a * (2 ^ c - 1)
+  filled = ap (λ (b : ℕ). a * (b - 1)) (one_shifted c (omega arith))
 
-  pub filled_fits : ((((x * 2 ^ c) % 2 ^ 64 + y) * 2 ^ c) % 2 ^ 64 + z) * ((1 * 2 ^ c) % 2 ^ 64 - 1) < 2 ^ 64
+  pub filled_fits : a * ((1 * 2 ^ c) % 2 ^ 64 - 1) < 2 ^ 64
   filled_fits =
-      let w = (x * 2 ^ c + y) * 2 ^ c + z in
-      let small : 2 ^ c ≤ 8 = pow_mono {i = c} {j = 3} few in
-      let seven : 2 ^ c - 1 ≤ 7 = omega (arith, small) in
-      rw three_filled (omega (arith, mul-le-mul_left w seven, most (x * 2 ^ c + y), most x))
+      let eight : 2 ^ c ≤ 8 = pow_mono {i = c} {j = 3} few in
+      let seven : 2 ^ c - 1 ≤ 7 = omega (arith, eight) in
+      rw filled (omega (arith, mul-le-mul_left a seven))
 
 -- the key bits by the kind of variant
 module _ (v : ℕ) (numbers bits : List ℕ) (r w i c n : ℕ) where
@@ -264,19 +263,19 @@ pub within : (i n c : ℕ) → i < n → i * c + c ≤ n * c
 within i n c h = subst (λ (x : ℕ). x ≤ n * c) (suc-mul i c) (mul-le-mul_right c h)
 
 -- what the code makes of a round, and of the rounds that are worked at once, moves the registers and the source by them
-module _ (v : ℕ) (counters numbers : List ℕ) (ts : Tables counters numbers) (r : ℕ) (h t : Running) where
+module _ (v : ℕ) (counters numbers : List ℕ) (cs : counters ≡ tabulate counter 0 rounds) (ns : numbers ≡ tabulate key_bit_number 0 (2 * rounds)) (r : ℕ) (h t : Running) where
   module _ (q : r < rounds) (u : RoundInput) (key : ℕ) where
     pub round_moves : u ≡ table_input v counters numbers r (window_number h.source) → t.registers ≡ round (row_of v) (lowest u) h.registers
         → window_number t.source ≡ next_source v 1 (window_number h.source) → Moves v key r 1 h t
     round_moves i f g e =
-        let takes : lowest u ≡ input_of v key (r + 0) = one_input counters numbers ts v key r _ u q e i ∙ ap (input_of v key) (sym (add-zero r)) in
+        let takes : lowest u ≡ input_of v key (r + 0) = one_input counters numbers cs ns v key r _ u q e i ∙ ap (input_of v key) (sym (add-zero r)) in
         (f ∙ ap (λ (x : RoundInput). round (row_of v) x h.registers) takes, g ∙ source_next v key r 1 _ (omega arith) e)
 
     pub round_moves_back : u ≡ table_input v counters numbers r (window_number t.source) → t.registers ≡ unround (row_of v) (lowest u) h.registers
         → window_number t.source ≡ previous_source v 1 (window_number h.source) → MovesBack v key r 1 h t
     round_moves_back i f g e =
         let here : window_number t.source ≡ source_at v key r = g ∙ source_previous v key r 1 _ (omega arith) e in
-        let takes : lowest u ≡ input_of v key (r + 0) = one_input counters numbers ts v key r _ u q here i ∙ ap (input_of v key) (sym (add-zero r)) in
+        let takes : lowest u ≡ input_of v key (r + 0) = one_input counters numbers cs ns v key r _ u q here i ∙ ap (input_of v key) (sym (add-zero r)) in
         (f ∙ ap (λ (x : RoundInput). unround (row_of v) x h.registers) takes, here)
 
   module _ (bits : List ℕ) (q : r + stride_of (row_of v) ≤ rounds) (row : Row) (is : row ≡ row_of v) (w : RoundInput) (key : ℕ) (picks : KeyBits v key bits) where
@@ -289,7 +288,7 @@ module _ (v : ℕ) (counters numbers : List ℕ) (ts : Tables counters numbers) 
       f
           ∙ ap (λ (x : RoundInput). clocks_by row (stride_clocks row) x h.registers) i
           ∙ ap (λ (x : Row). clocks_by x (stride_clocks x) (words_of x.clocks (rounds_input v counters numbers bits r (window_number h.source)) (stride_of x)) h.registers) is
-          ∙ moved counters numbers ts v key bits picks r _ e (stride_of (row_of v)) few q h.registers,
+          ∙ moved counters numbers cs ns v key bits picks r _ e (stride_of (row_of v)) few q h.registers,
       g ∙ source_next v key r _ _ (omega (arith, few)) e,
     )
 
@@ -300,6 +299,6 @@ module _ (v : ℕ) (counters numbers : List ℕ) (ts : Tables counters numbers) 
           f
               ∙ ap (λ (x : RoundInput). unclocks_by row (stride_clocks row) x h.registers) i
               ∙ ap (λ (x : Row). unclocks_by x (stride_clocks x) (words_of x.clocks (rounds_input v counters numbers bits r (window_number t.source)) (stride_of x)) h.registers) is
-              ∙ moved_back counters numbers ts v key bits picks r _ here (stride_of (row_of v)) few q h.registers,
+              ∙ moved_back counters numbers cs ns v key bits picks r _ here (stride_of (row_of v)) few q h.registers,
           here,
         )

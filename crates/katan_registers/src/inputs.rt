@@ -1,13 +1,14 @@
-// What rounds take: one round's input, and the words of several rounds.
-ghost use Rattle.std.specs.Prelude.{◌≡◌, ◌<◌, ◌≤◌, ◌+◌, ◌-◌, ◌*◌, ◌^◌, get_or};
-ghost use Rattle.katan.specs.Bit.{bit};
+// What rounds take: one round's input, and the words of a stride's rounds.
+ghost use Rattle.std.specs.Prelude.{◌≡◌, ℕ, ◌<◌, ◌≤◌, ◌+◌, ◌-◌, ◌*◌, ◌^◌, get_or};
 ghost use Rattle.katan.specs.Counter.{rounds};
+ghost use Rattle.katan.specs.Stride.{stride_of};
 ghost use Rattle.katan_keys.specs.Window.{window_number};
 ghost use Rattle.katan_clocks.specs.inner.Words.{beside, words_of};
-ghost use Rattle.katan_registers.specs.inner.Tables.{input_from, table_input, Named, key_bit, rounds_input};
+ghost use Rattle.katan_registers.specs.inner.Tables.{input_from, table_input, key_bit, rounds_input};
 
 use katan::RoundInput;
 use katan_keys::Window;
+use katan_variants::{Tables, Width};
 
 // IR from the round's T, and ka and kb, which have these places in the source.
 fn input_from(counter: u8, source: Window, ka: usize, kb: usize) -> RoundInput
@@ -21,194 +22,76 @@ fn input_from(counter: u8, source: Window, ka: usize, kb: usize) -> RoundInput
 }
 
 // The input of round r. KATAN's key bits are the two lowest of the window; KTANTAN's table names them.
-pub fn input_of(
-    variant: u8,
-    counters: &[u8; katan::ROUND_COUNT],
-    numbers: &[u8; katan::ROUND_KEYS],
-    r: usize,
-    source: Window,
-) -> RoundInput
+pub fn input_of(variant: u8, tables: &Tables, r: usize, source: Window) -> RoundInput
     requires { r < rounds }
-    ensures { result ≡ table_input variant counters.now numbers.now r (window_number source) }
+    ensures { result ≡ table_input variant tables.now.counters tables.now.numbers r (window_number source) }
 {
     if katan_variants::is_katan(variant) {
-        return input_from(counters[r], source, 0, 1);
+        return input_from(tables.counters[r], source, 0, 1);
     }
-    let ka = usize::from(numbers[2 * r]);
-    let kb = usize::from(numbers[2 * r + 1]);
-    input_from(counters[r], source, ka, kb)
+    let ka = usize::from(tables.numbers[2 * r]);
+    let kb = usize::from(tables.numbers[2 * r + 1]);
+    input_from(tables.counters[r], source, ka, kb)
 }
 
-// The words of three rounds of c clocks, and of four of one clock: the first round highest, its bit in each of its clocks.
-fn three(c: usize, x: u64, y: u64, z: u64) -> u64
-    requires { (c ≤ 3) × (x < 2 ^ 8) × (y < 2 ^ 8) × (z < 2 ^ 8) }
-    ensures { result ≡ ((x * 2 ^ c + y) * 2 ^ c + z) * (2 ^ c - 1) }
+// A word of a bit of each round of a stride, the first round's highest, in each of its clocks. `bit` gives the bit of the round j
+// after the first.
+fn word_of<W: Width, F: Fn(usize) -> u64>(bit: F) -> u64
+    requires callable { (j : ℕ) → j < stride_of W.Width.row → F.pre bit j }
+    requires small { (j x : ℕ) → j < stride_of W.Width.row → F.post bit j x → x < 2 ^ 8 }
+    ensures { (f : ℕ → ℕ) → ((j x : ℕ) → j < stride_of W.Width.row → F.post bit j x → x ≡ f j) → result ≡ beside W.Width.row.clocks f (stride_of W.Width.row) * (2 ^ W.Width.row.clocks - 1) }
 {
-    ((((x << c) + y) << c) + z) * ((1 << c) - 1)
-}
-
-fn four(x: u64, y: u64, z: u64, t: u64) -> u64
-    requires { (x < 2 ^ 8) × (y < 2 ^ 8) × (z < 2 ^ 8) × (t < 2 ^ 8) }
-    ensures { result ≡ ((x * 2 + y) * 2 + z) * 2 + t }
-{
-    ((x * 2 + y) * 2 + z) * 2 + t
-}
-
-// IR of the rounds from r on: T shifts left, so that the next rounds' IR follow that of round r in its T.
-fn ir_3(c: usize, counters: &[u8; katan::ROUND_COUNT], r: usize) -> u64
-    requires { (c ≤ 3) × (r < rounds) }
-    ensures { result ≡ beside c (λ j. bit (get_or counters.now r 0) (7 - j)) 3 * (2 ^ c - 1) }
-{
-    let t = u64::from(counters[r]);
-    three(
-        c,
-        katan_numbers::bit_of(t, 7),
-        katan_numbers::bit_of(t, 6),
-        katan_numbers::bit_of(t, 5),
-    )
-}
-
-fn ir_4(counters: &[u8; katan::ROUND_COUNT], r: usize) -> u64
-    requires { r < rounds }
-    ensures { result ≡ beside 1 (λ j. bit (get_or counters.now r 0) (7 - j)) 4 * (2 ^ 1 - 1) }
-{
-    u64::from(counters[r]) >> 4
-}
-
-// KATAN: every second bit of the window, from bit i on.
-fn window_3(c: usize, w: Window, i: usize) -> u64
-    requires { (c ≤ 3) × (i < 2) }
-    ensures { result ≡ beside c (λ j. bit (window_number w) (i + 2 * j)) 3 * (2 ^ c - 1) }
-{
-    three(
-        c,
-        katan_keys::bit_at(w, i),
-        katan_keys::bit_at(w, i + 2),
-        katan_keys::bit_at(w, i + 4),
-    )
-}
-
-fn window_4(w: Window, i: usize) -> u64
-    requires { i < 2 }
-    ensures { result ≡ beside 1 (λ j. bit (window_number w) (i + 2 * j)) 4 * (2 ^ 1 - 1) }
-{
-    four(
-        katan_keys::bit_at(w, i),
-        katan_keys::bit_at(w, i + 2),
-        katan_keys::bit_at(w, i + 4),
-        katan_keys::bit_at(w, i + 6),
-    )
+    let clocks = W::row().clocks as usize;
+    let mut word: u64 = 0;
+    for j in 0..katan_variants::stride::<W>() {
+        word = (word << clocks) + bit(j);
+    }
+    word * ((1 << clocks) - 1)
 }
 
 // KTANTAN: the key bit that entry i of the table names.
-fn picked(numbers: &[u8; katan::ROUND_KEYS], bits: &[u8; katan::KEY_BITS], i: usize) -> u64
-    requires { (i < 2 * rounds) × Named numbers.now }
-    ensures { (result ≡ get_or bits.now (get_or numbers.now i 0) 0) × (result < 2 ^ 8) }
+fn picked(tables: &Tables, picks: &[u8; katan::KEY_BITS], i: usize) -> u64
+    requires { i < 2 * rounds }
+    ensures is { result ≡ get_or picks.now (get_or tables.now.numbers i 0) 0 }
+    ensures small { result < 2 ^ 8 }
 {
-    u64::from(bits[usize::from(numbers[i])])
+    u64::from(picks[usize::from(tables.numbers[i])])
 }
 
-fn picked_3(
-    c: usize,
-    numbers: &[u8; katan::ROUND_KEYS],
-    bits: &[u8; katan::KEY_BITS],
-    i: usize,
-) -> u64
-    requires { (c ≤ 3) × (i + 4 < 2 * rounds) × Named numbers.now }
-    ensures { result ≡ beside c (λ j. get_or bits.now (get_or numbers.now (i + 2 * j) 0) 0) 3 * (2 ^ c - 1) }
-{
-    three(
-        c,
-        picked(numbers, bits, i),
-        picked(numbers, bits, i + 2),
-        picked(numbers, bits, i + 4),
-    )
-}
-
-fn picked_4(numbers: &[u8; katan::ROUND_KEYS], bits: &[u8; katan::KEY_BITS], i: usize) -> u64
-    requires { (i + 6 < 2 * rounds) × Named numbers.now }
-    ensures { result ≡ beside 1 (λ j. get_or bits.now (get_or numbers.now (i + 2 * j) 0) 0) 4 * (2 ^ 1 - 1) }
-{
-    four(
-        picked(numbers, bits, i),
-        picked(numbers, bits, i + 2),
-        picked(numbers, bits, i + 4),
-        picked(numbers, bits, i + 6),
-    )
-}
-
-// ka of the rounds from r on where i is 0, kb where it is 1.
-fn key_3(
+// ka of the rounds of a stride from round r on where i is 0, kb where it is 1. KATAN's are every second bit of the window, from bit i on.
+fn key_word_of<W: Width>(
     variant: u8,
-    c: usize,
-    numbers: &[u8; katan::ROUND_KEYS],
-    bits: &[u8; katan::KEY_BITS],
+    tables: &Tables,
+    picks: &[u8; katan::KEY_BITS],
     r: usize,
     source: Window,
     i: usize,
 ) -> u64
-    requires { (c ≤ 3) × (i < 2) × (r + 3 ≤ rounds) × Named numbers.now }
-    ensures { result ≡ beside c (key_bit variant numbers.now bits.now r (window_number source) i) 3 * (2 ^ c - 1) }
+    requires { (i < 2) × (r + stride_of W.Width.row ≤ rounds) }
+    ensures { result ≡ beside W.Width.row.clocks (key_bit variant tables.now.numbers picks.now r (window_number source) i) (stride_of W.Width.row) * (2 ^ W.Width.row.clocks - 1) }
 {
     if katan_variants::is_katan(variant) {
-        window_3(c, source, i)
+        word_of::<W, _>(|j| katan_keys::bit_at(source, i + 2 * j))
     } else {
-        picked_3(c, numbers, bits, 2 * r + i)
+        word_of::<W, _>(|j| picked(tables, picks, 2 * r + i + 2 * j))
     }
 }
 
-fn key_4(
+// The inputs of the rounds of a stride, from round r on. T shifts left, so that the next rounds' IR follow that of round r in its T.
+pub fn inputs_of<W: Width>(
     variant: u8,
-    numbers: &[u8; katan::ROUND_KEYS],
-    bits: &[u8; katan::KEY_BITS],
-    r: usize,
-    source: Window,
-    i: usize,
-) -> u64
-    requires { (i < 2) × (r + 4 ≤ rounds) × Named numbers.now }
-    ensures { result ≡ beside 1 (key_bit variant numbers.now bits.now r (window_number source) i) 4 * (2 ^ 1 - 1) }
-{
-    if katan_variants::is_katan(variant) {
-        window_4(source, i)
-    } else {
-        picked_4(numbers, bits, 2 * r + i)
-    }
-}
-
-// The inputs of three rounds of c clocks, and of four of one clock, from round r on.
-pub fn inputs_3(
-    variant: u8,
-    c: usize,
-    counters: &[u8; katan::ROUND_COUNT],
-    numbers: &[u8; katan::ROUND_KEYS],
-    bits: &[u8; katan::KEY_BITS],
+    tables: &Tables,
+    picks: &[u8; katan::KEY_BITS],
     r: usize,
     source: Window,
 ) -> RoundInput
-    requires { (c ≤ 3) × (r + 3 ≤ rounds) × Named numbers.now }
-    ensures { result ≡ words_of c (rounds_input variant counters.now numbers.now bits.now r (window_number source)) 3 }
+    requires { r + stride_of W.Width.row ≤ rounds }
+    ensures { result ≡ words_of W.Width.row.clocks (rounds_input variant tables.now.counters tables.now.numbers picks.now r (window_number source)) (stride_of W.Width.row) }
 {
+    let t = u64::from(tables.counters[r]);
     RoundInput {
-        ir: ir_3(c, counters, r),
-        ka: key_3(variant, c, numbers, bits, r, source, 0),
-        kb: key_3(variant, c, numbers, bits, r, source, 1),
-    }
-}
-
-pub fn inputs_4(
-    variant: u8,
-    counters: &[u8; katan::ROUND_COUNT],
-    numbers: &[u8; katan::ROUND_KEYS],
-    bits: &[u8; katan::KEY_BITS],
-    r: usize,
-    source: Window,
-) -> RoundInput
-    requires { (r + 4 ≤ rounds) × Named numbers.now }
-    ensures { result ≡ words_of 1 (rounds_input variant counters.now numbers.now bits.now r (window_number source)) 4 }
-{
-    RoundInput {
-        ir: ir_4(counters, r),
-        ka: key_4(variant, numbers, bits, r, source, 0),
-        kb: key_4(variant, numbers, bits, r, source, 1),
+        ir: word_of::<W, _>(|j| katan_numbers::bit_of(t, 7 - j)),
+        ka: key_word_of::<W>(variant, tables, picks, r, source, 0),
+        kb: key_word_of::<W>(variant, tables, picks, r, source, 1),
     }
 }

@@ -11,27 +11,39 @@ ghost use Rattle.katan_registers.specs.Answers.{registers_answer};
 ghost use Rattle.katan_registers.specs.Inputs.{round_input};
 
 use crate::inputs::input_of;
-use crate::rounds::by_tables;
-use katan::{Key, Refusal, RoundInput, RoundPosition, Row};
+use crate::rounds::Machine;
+use katan::{Key, Refusal, RoundInput, RoundPosition};
+use katan_variants::{Bits32, Bits48, Bits64, Tables, Width};
+use std::marker::PhantomData;
 
 mod inputs;
 mod rounds;
 
-// The registers at one position of x loaded at another.
-fn registers_between(
-    variant: u8,
-    row: Row,
-    key: Key,
-    from: RoundPosition,
-    to: RoundPosition,
-    x: u64,
-) -> u64
-    requires { (row ≡ row_of variant) × (from.0 ≤ rounds) × (to.0 ≤ rounds) × (x < 2 ^ width_of variant) }
+// The registers at one position of x loaded at another, at the variant's width.
+fn between<W: Width>(variant: u8, key: Key, from: RoundPosition, to: RoundPosition, x: u64) -> u64
+    requires { (W.Width.row ≡ row_of variant) × (from.0 ≤ rounds) × (to.0 ≤ rounds) × (x < 2 ^ width_of variant) }
     ensures { result ≡ registers_at variant (key_number key) from.0 x to.0 }
 {
-    let counters = katan_variants::counters();
-    let numbers = katan_variants::key_bit_numbers();
-    by_tables(variant, row, &counters, &numbers, key, from, to, x)
+    let tables = Tables::new();
+    let machine = Machine::<W> {
+        variant,
+        key,
+        tables: &tables,
+        width: PhantomData,
+    };
+    machine.between(from, to, x)
+}
+
+// The same at any variant.
+fn registers_between(variant: u8, key: Key, from: RoundPosition, to: RoundPosition, x: u64) -> u64
+    requires { (from.0 ≤ rounds) × (to.0 ≤ rounds) × (x < 2 ^ width_of variant) }
+    ensures { result ≡ registers_at variant (key_number key) from.0 x to.0 }
+{
+    match variant {
+        2 | 5 => between::<Bits48>(variant, key, from, to, x),
+        3 | 6 => between::<Bits64>(variant, key, from, to, x),
+        _ => between::<Bits32>(variant, key, from, to, x),
+    }
 }
 
 // The registers of a block, from one position to another, either way.
@@ -51,7 +63,7 @@ pub fn registers_at(
     if katan_numbers::too_wide(row.n, registers) {
         return Err(Refusal::BadBlock);
     }
-    Ok(registers_between(variant, row, key, from, to, registers))
+    Ok(registers_between(variant, key, from, to, registers))
 }
 
 // IR, ka and kb of the round that starts at a position; zeros at 254 and above, where none does.
@@ -66,8 +78,6 @@ pub fn round_input(variant: u8, key: Key, at: RoundPosition) -> RoundInput
             kb: 0,
         };
     }
-    let counters = katan_variants::counters();
-    let numbers = katan_variants::key_bit_numbers();
     let source = katan_keys::source_at(variant, key, at);
-    input_of(variant, &counters, &numbers, r, source)
+    input_of(variant, &Tables::new(), r, source)
 }

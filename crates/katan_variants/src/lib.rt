@@ -155,15 +155,12 @@ pub fn row_of(variant: u8) -> Result<Row, Refusal>
     }
 }
 
-// The rounds of a variant's stride; KATAN32's where there is no such variant.
-pub fn stride(variant: u8) -> usize
-    ensures { result ≡ stride_of (row_of variant) }
+// The rounds of a stride.
+pub fn stride<W: Width>() -> usize
+    ensures { result ≡ stride_of W.Width.row }
 {
-    match variant {
-        2 | 5 => 3,
-        3 | 6 => 3,
-        _ => 4,
-    }
+    let row = W::row();
+    (row.x5 + 1) / row.clocks as usize
 }
 
 // The width of a variant's blocks; KATAN32's where there is no such variant.

@@ -1,6 +1,5 @@
-use borrow.Author.Rules.{rules}
-use Rattle.katan.proofs.Variants.{is_row32}
+use Rattle.katan_clocks.proofs.Steps.{one_unround}
 use Rattle.katan_clocks.proofs.unround.Goals as goal
 
-pub returns-in_default : goal.returns-in_default
-returns-in_default c = search (rules, is_row32)
+pub returns : goal.returns
+returns g c = one_unround _ _ c.of_round-one.ensures.row _ c.of_round-one.ensures.count _ _ c.in_each.ensures _ _ c.go_back.ensures

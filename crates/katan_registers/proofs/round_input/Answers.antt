@@ -21,8 +21,7 @@ returns c =
     let key = key_number a.key in
     let r = a.at.0 in
     let early : r < rounds = omega (arith, c.from-r.ensures) in
-    let ts = c.counters-counters.result in
-    let ns = c.key_bit_numbers-numbers.result in
+    let ts = c.new.result in
     let w = window_number c.source_at-source.result in
-    let here : c.input_of.result ≡ table_input v ts ns r w = c.input_of.ensures ∙ ap (λ (i : ℕ). table_input v ts ns i w) c.from-r.ensures in
-    rw (lt-ltb r rounds early) (here ∙ table-input ts ns (c.counters-counters.ensures, c.key_bit_numbers-numbers.ensures) v key r w early c.source_at-source.ensures)
+    let here : c.input_of.result ≡ table_input v ts.counters ts.numbers r w = c.input_of.ensures ∙ ap (λ (i : ℕ). table_input v ts.counters ts.numbers i w) c.from-r.ensures in
+    rw (lt-ltb r rounds early) (here ∙ table-input ts.counters ts.numbers ts.counters_are ts.numbers_are v key r w early c.source_at-source.ensures)
