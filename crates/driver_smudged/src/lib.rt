@@ -10,7 +10,7 @@ ghost use Rattle.katan_sheet.specs.Answers.{key_known};
 ghost use Rattle.driver_smudged.specs.Calls.{known_words, word_count, known_bytes, byte_count, smudged_call, join_call, joined_words, joined_bytes};
 
 use katan::{KEY_BYTES, Refusal, RoundPosition};
-use katan_sheet::{KnownBits, KnownKey};
+use katan_sheet::{Known, KnownBits, KnownKey, Sheet};
 use katan_variants::status;
 
 // The words lent for the bits of a block, and the bytes lent for those of a key.
@@ -23,6 +23,19 @@ fn position_of(position: u64) -> RoundPosition
     ensures { (position_check result.0 ≡ position_check position) × (position ≤ rounds → result.0 ≡ position) }
 {
     RoundPosition(u8::try_from(position).unwrap_or(u8::MAX))
+}
+
+// A sheet of what is lent.
+fn sheet_of<'a>(ones: u64, zeros: u64, key_ones: &'a [u8], key_zeros: &'a [u8]) -> Sheet<&'a [u8]>
+    ensures { (result.block ≡ record { ones = ones; zeros = zeros }) × (result.key.ones.now ≡ key_ones.now) × (result.key.zeros.now ≡ key_zeros.now) }
+{
+    Sheet {
+        block: Known { ones, zeros },
+        key: Known {
+            ones: key_ones,
+            zeros: key_zeros,
+        },
+    }
 }
 
 fn put_words(known: KnownBits, out: &mut [u64])
@@ -43,16 +56,9 @@ fn put_bytes(key: KnownKey, out: &mut [u8])
 }
 
 // A run of a sheet, where variant and lent memory are sound and the run is not refused.
-fn put_run(
-    variant: u8,
-    block: KnownBits,
-    key_ones: &[u8],
-    key_zeros: &[u8],
-    position: u64,
-    out: &mut [u64],
-) -> Result<(), Refusal>
-    ensures value { status_of (outcome result) ≡ status_of (smudged_call variant block key_ones.now key_zeros.now position out.old) }
-    ensures out_after { out.new ≡ lent_after known_words (smudged_call variant block key_ones.now key_zeros.now position out.old) out.old }
+fn put_run(variant: u8, sheet: Sheet<&[u8]>, position: u64, out: &mut [u64]) -> Result<(), Refusal>
+    ensures value { status_of (outcome result) ≡ status_of (smudged_call variant sheet.entry.block sheet.entry.key.ones.now sheet.entry.key.zeros.now position out.old) }
+    ensures out_after { out.new ≡ lent_after known_words (smudged_call variant sheet.entry.block sheet.entry.key.ones.now sheet.entry.key.zeros.now position out.old) out.old }
 {
     if katan_variants::bad_variant(variant) {
         return Err(Refusal::BadVariant);
@@ -60,8 +66,7 @@ fn put_run(
     if out.len() != WORDS {
         return Err(Refusal::BadLength);
     }
-    let to = position_of(position);
-    let known = katan_smudged::smudged(variant, block, key_ones, key_zeros, to)?;
+    let known = katan_smudged::smudged(variant, sheet, position_of(position))?;
     put_words(known, out);
     Ok(())
 }
@@ -80,25 +85,21 @@ pub fn smudged(
     ensures value { result ≡ status_of (smudged_call variant (record { ones = ones; zeros = zeros }) key_ones.now key_zeros.now position out.old) }
     ensures out_after { out.new ≡ lent_after known_words (smudged_call variant (record { ones = ones; zeros = zeros }) key_ones.now key_zeros.now position out.old) out.old }
 {
-    let block = KnownBits { ones, zeros };
-    status(put_run(variant, block, key_ones, key_zeros, position, out))
+    let sheet = sheet_of(ones, zeros, key_ones, key_zeros);
+    status(put_run(variant, sheet, position, out))
 }
 
 // A join of two sheets, where variant and lent memory are sound and the join is not refused.
 fn put_joined(
     variant: u8,
-    block: KnownBits,
-    key_ones: &[u8],
-    key_zeros: &[u8],
-    other: KnownBits,
-    other_key_ones: &[u8],
-    other_key_zeros: &[u8],
+    sheet: Sheet<&[u8]>,
+    other: Sheet<&[u8]>,
     out: &mut [u64],
     key_out: &mut [u8],
 ) -> Result<(), Refusal>
-    ensures value { status_of (outcome result) ≡ status_of (join_call variant block key_ones.now key_zeros.now other other_key_ones.now other_key_zeros.now out.old key_out.old) }
-    ensures out_after { out.new ≡ lent_after joined_words (join_call variant block key_ones.now key_zeros.now other other_key_ones.now other_key_zeros.now out.old key_out.old) out.old }
-    ensures key_after { key_out.new ≡ lent_after joined_bytes (join_call variant block key_ones.now key_zeros.now other other_key_ones.now other_key_zeros.now out.old key_out.old) key_out.old }
+    ensures value { status_of (outcome result) ≡ status_of (join_call variant sheet.entry.block sheet.entry.key.ones.now sheet.entry.key.zeros.now other.entry.block other.entry.key.ones.now other.entry.key.zeros.now out.old key_out.old) }
+    ensures out_after { out.new ≡ lent_after joined_words (join_call variant sheet.entry.block sheet.entry.key.ones.now sheet.entry.key.zeros.now other.entry.block other.entry.key.ones.now other.entry.key.zeros.now out.old key_out.old) out.old }
+    ensures key_after { key_out.new ≡ lent_after joined_bytes (join_call variant sheet.entry.block sheet.entry.key.ones.now sheet.entry.key.zeros.now other.entry.block other.entry.key.ones.now other.entry.key.zeros.now out.old key_out.old) key_out.old }
 {
     if katan_variants::bad_variant(variant) {
         return Err(Refusal::BadVariant);
@@ -106,17 +107,9 @@ fn put_joined(
     if out.len() != WORDS || key_out.len() != BYTES {
         return Err(Refusal::BadLength);
     }
-    let sheet = katan_sheet::join(
-        variant,
-        block,
-        key_ones,
-        key_zeros,
-        other,
-        other_key_ones,
-        other_key_zeros,
-    )?;
-    put_words(sheet.block, out);
-    put_bytes(sheet.key, key_out);
+    let joined = katan_sheet::join(variant, sheet, other)?;
+    put_words(joined.block, out);
+    put_bytes(joined.key, key_out);
     Ok(())
 }
 
@@ -139,20 +132,7 @@ pub fn join(
         × (out.new ≡ lent_after joined_words (join_call variant (record { ones = ones; zeros = zeros }) key_ones.now key_zeros.now (record { ones = other_ones; zeros = other_zeros }) other_key_ones.now other_key_zeros.now out.old key_out.old) out.old)
         × (key_out.new ≡ lent_after joined_bytes (join_call variant (record { ones = ones; zeros = zeros }) key_ones.now key_zeros.now (record { ones = other_ones; zeros = other_zeros }) other_key_ones.now other_key_zeros.now out.old key_out.old) key_out.old) }
 {
-    let block = KnownBits { ones, zeros };
-    let other = KnownBits {
-        ones: other_ones,
-        zeros: other_zeros,
-    };
-    status(put_joined(
-        variant,
-        block,
-        key_ones,
-        key_zeros,
-        other,
-        other_key_ones,
-        other_key_zeros,
-        out,
-        key_out,
-    ))
+    let sheet = sheet_of(ones, zeros, key_ones, key_zeros);
+    let other = sheet_of(other_ones, other_zeros, other_key_ones, other_key_zeros);
+    status(put_joined(variant, sheet, other, out, key_out))
 }

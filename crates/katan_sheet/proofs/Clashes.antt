@@ -10,9 +10,10 @@ use lib.Dec.{eqb}
 use Rattle.katan.specs.Bit.{and}
 use Rattle.katan_sheet.specs.Sheet.{contradicts}
 use Rattle.katan_sheet.specs.Answers.{key_known}
-use Rattle.katan_sheet.specs.declared.KnownKey.{KnownKey}
+use Rattle.katan_sheet.specs.declared.Known.{Known}
+use Rattle.katan.specs.declared.Key.{Key}
 
-module _ (key : KnownKey) (p : key.ones.low < 2 ^ 64) (q : key.zeros.low < 2 ^ 64) where
+module _ (key : Known Key) (p : key.ones.low < 2 ^ 64) (q : key.zeros.low < 2 ^ 64) where
   abbrev both : ℕ
   both = and (key_known key).ones (key_known key).zeros
 

@@ -19,7 +19,7 @@ use Rattle.katan_sheet.specs.Three.{Three, is0, xor_three, and_three, known}
 use Rattle.katan_sheet.specs.Cells.{bits_at}
 use Rattle.katan_sheet.specs.Sheet.{given, one_of, zero_of, bits_given, smudged_at, contradicts}
 use Rattle.katan_sheet.specs.Claim.{whole}
-use Rattle.katan_sheet.specs.declared.KnownBits.{KnownBits}
+use Rattle.katan_sheet.specs.declared.Known.{Known}
 use Rattle.katan_sheet.proofs.Related.{Lists, at_related, tabulate_related, bits_related}
 use Rattle.katan_sheet.proofs.Agrees.{of_three}
 use Rattle.katan_sheet.proofs.Sheets.{one_given, zero-given, sheet_is, not_both}
@@ -83,7 +83,7 @@ exact v p k x hk hx =
 -- ---- no round run
 
 -- THEOREM: the result is the block as given
-pub first : (v : ℕ) (key block : KnownBits) → block.ones < 2 ^ width_of v → block.zeros < 2 ^ width_of v → contradicts block ≡ false → smudged_at v key block 0 ≡ block
+pub first : (v : ℕ) (key block : Known ℕ) → block.ones < 2 ^ width_of v → block.zeros < 2 ^ width_of v → contradicts block ≡ false → smudged_at v key block 0 ≡ block
 unfolding smudged_at bits_at
 first v key block p q c =
     let n = width_of v in

@@ -14,7 +14,7 @@ use Rattle.katan.proofs.Bits.{bit_lt, bit-zero, bit_and, bit_or, bits_equal, fro
 use Rattle.katan_sheet.specs.Three.{Three, is0, is1, unknown}
 use Rattle.katan_sheet.specs.Sheet.{given, one_of, zero_of, sheet_of, joined, contradicts}
 use Rattle.katan_sheet.specs.Claim.{Fills, Keeps}
-use Rattle.katan_sheet.specs.declared.KnownBits.{KnownBits}
+use Rattle.katan_sheet.specs.declared.Known.{Known}
 
 -- ---- one bit
 
@@ -51,7 +51,7 @@ zero-given (suc (suc o)) z p q e = absurd (omega arith)
 
 -- ---- a sheet of bits
 
-abbrev pub sheet : ℕ → ℕ → KnownBits
+abbrev pub sheet : ℕ → ℕ → Known ℕ
 sheet o z = record { ones = o; zeros = z }
 
 module _ (n : ℕ) (bits : List Three) where
@@ -78,7 +78,7 @@ module _ (n : ℕ) (bits : List Three) where
       ap not (eq-eqb _ 0 none)
 
   -- it is the one sheet with its bits
-  pub sheet_is : (k : KnownBits) → k.ones < 2 ^ n → k.zeros < 2 ^ n → ((i : ℕ) → i < n → one_of (get_or bits i is0) ≡ bit k.ones i)
+  pub sheet_is : (k : Known ℕ) → k.ones < 2 ^ n → k.zeros < 2 ^ n → ((i : ℕ) → i < n → one_of (get_or bits i is0) ≡ bit k.ones i)
       → ((i : ℕ) → i < n → zero_of (get_or bits i is0) ≡ bit k.zeros i) → sheet_of n bits ≡ k
   sheet_is k p q f g =
       ap₂ sheet
@@ -86,7 +86,7 @@ module _ (n : ℕ) (bits : List Three) where
       (bits_equal n (sheet_of n bits).zeros k.zeros zeros_in q (λ i h. bit_zeros i h ∙ g i h))
 
 -- no bit is known both ways
-pub not_both : (k : KnownBits) → contradicts k ≡ false → (i : ℕ) → and (bit k.ones i) (bit k.zeros i) ≡ 0
+pub not_both : (k : Known ℕ) → contradicts k ≡ false → (i : ℕ) → and (bit k.ones i) (bit k.zeros i) ≡ 0
 not_both k e i =
     sym (bit_and k.ones k.zeros i) ∙ ap (λ (y : ℕ). bit y i) (eqb-true _ 0 (not-false _ e)) ∙ bit-zero i
 
@@ -96,7 +96,7 @@ no_one zero z p e f = omega arith
 no_one (suc zero) z p e f = let g : and 1 1 ≡ 0 = ap (and 1) (sym f) ∙ e in absurd (omega arith)
 no_one (suc (suc o)) z p e f = absurd (omega arith)
 
-pub fillable : (n : ℕ) (k : KnownBits) → k.ones < 2 ^ n → contradicts k ≡ false → Fills n k k.ones
+pub fillable : (n : ℕ) (k : Known ℕ) → k.ones < 2 ^ n → contradicts k ≡ false → Fills n k k.ones
 fillable n k h c =
     record { in_width = h; has_ones = λ i q e. e; has_zeros = λ i q e. no_one (bit k.ones i) (bit k.zeros i) (bit_lt k.ones i) (not_both k c i) e }
 
@@ -116,13 +116,13 @@ or_cases P (suc (suc a)) b p f g e = absurd (omega arith)
 in_join : (a b i : ℕ) → bit a i ≡ 1 → bit (or a b) i ≡ 1
 in_join a b i e = bit_or a b i ∙ or_left (bit a i) (bit b i) (bit_lt b i) e
 
-pub keeps_join : (n : ℕ) (k l : KnownBits) → Keeps n k (joined k l)
+pub keeps_join : (n : ℕ) (k l : Known ℕ) → Keeps n k (joined k l)
 keeps_join n k l = record { ones_kept = λ i q e. in_join k.ones l.ones i e; zeros_kept = λ i q e. in_join k.zeros l.zeros i e }
 
-pub keeps_join' : (n : ℕ) (k l : KnownBits) → Keeps n l (joined k l)
+pub keeps_join' : (n : ℕ) (k l : Known ℕ) → Keeps n l (joined k l)
 keeps_join' n k l = subst (Keeps n l) (ap₂ sheet (or_comm l.ones k.ones) (or_comm l.zeros k.zeros)) (keeps_join n l k)
 
-pub fills_both : (n x : ℕ) (k l : KnownBits) → Fills n k x → Fills n l x → Fills n (joined k l) x
+pub fills_both : (n x : ℕ) (k l : Known ℕ) → Fills n k x → Fills n l x → Fills n (joined k l) x
 fills_both n x k l f g =
     record {
       in_width = f.in_width;
@@ -158,13 +158,13 @@ four_ways (suc zero) (suc (suc b)) (suc zero) d p q r s = absurd (omega arith)
 four_ways (suc zero) b (suc (suc c)) d p q r s = absurd (omega arith)
 four_ways (suc (suc a)) b c d p q r s = absurd (omega arith)
 
-pub clashes : (k l : KnownBits) (i : ℕ) → and (bit (joined k l).ones i) (bit (joined k l).zeros i)
+pub clashes : (k l : Known ℕ) (i : ℕ) → and (bit (joined k l).ones i) (bit (joined k l).zeros i)
     ≡ or (or (and (bit k.ones i) (bit k.zeros i)) (and (bit l.ones i) (bit l.zeros i))) (or (and (bit k.ones i) (bit l.zeros i)) (and (bit l.ones i) (bit k.zeros i)))
 clashes k l i =
     ap₂ and (bit_or k.ones l.ones i) (bit_or k.zeros l.zeros i)
     ∙ four_ways (bit k.ones i) (bit k.zeros i) (bit l.ones i) (bit l.zeros i) (bit_lt k.ones i) (bit_lt k.zeros i) (bit_lt l.ones i) (bit_lt l.zeros i)
 
 -- a filling of a sheet that knows more is one of a sheet that knows less
-pub fills_less : (n x : ℕ) (k l : KnownBits) → Keeps n k l → Fills n l x → Fills n k x
+pub fills_less : (n x : ℕ) (k l : Known ℕ) → Keeps n k l → Fills n l x → Fills n k x
 fills_less n x k l s f =
     record { in_width = f.in_width; has_ones = λ i q e. f.has_ones i q (s.ones_kept i q e); has_zeros = λ i q e. f.has_zeros i q (s.zeros_kept i q e) }

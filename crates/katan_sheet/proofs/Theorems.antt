@@ -18,31 +18,31 @@ use Rattle.katan.proofs.Variants.{variant_sound}
 use Rattle.katan_sheet.specs.Sheet.{smudged_at, joined, contradicts}
 use Rattle.katan_sheet.specs.Answers.{key_given, key_parts_check, block_parts_check, contradiction_check, smudged_answer, join_answer}
 use Rattle.katan_sheet.specs.Claim.{Smudges}
-use Rattle.katan_sheet.specs.declared.KnownBits.{KnownBits}
+use Rattle.katan_sheet.specs.declared.Known.{Known}
 use Rattle.katan_sheet.proofs.Sheets.{ones_in, zeros_in, consistent, sheet, fillable, keeps_join, keeps_join', clashes, fills_both, fills_less}
 use Rattle.katan_sheet.proofs.Fillings.{shown, filled, kept}
 use Rattle.katan_sheet.proofs.Exact.{exact, first}
 use Rattle.katan_sheet.proofs.Refusals.{first_wide, second_wide, joint_clash}
 
-ones_fit : (v p : ℕ) (key block : KnownBits) → (smudged_at v key block p).ones < 2 ^ width_of v
+ones_fit : (v p : ℕ) (key block : Known ℕ) → (smudged_at v key block p).ones < 2 ^ width_of v
 unfolding smudged_at
 ones_fit v p key block = ones_in (width_of v) (shown v key block p)
 
-zeros_fit : (v p : ℕ) (key block : KnownBits) → (smudged_at v key block p).zeros < 2 ^ width_of v
+zeros_fit : (v p : ℕ) (key block : Known ℕ) → (smudged_at v key block p).zeros < 2 ^ width_of v
 unfolding smudged_at
 zeros_fit v p key block = zeros_in (width_of v) (shown v key block p)
 
-no_contradiction : (v p : ℕ) (key block : KnownBits) → contradicts (smudged_at v key block p) ≡ false
+no_contradiction : (v p : ℕ) (key block : Known ℕ) → contradicts (smudged_at v key block p) ≡ false
 unfolding smudged_at
 no_contradiction v p key block = consistent (width_of v) (shown v key block p)
 
-answered : (v : ℕ) (block : KnownBits) (key_ones key_zeros : List ℕ) (p : ℕ) → 1 ≤ v → v ≤ 6 → length key_ones ≡ 10 → length key_zeros ≡ 10 → p ≤ 254
+answered : (v : ℕ) (block : Known ℕ) (key_ones key_zeros : List ℕ) (p : ℕ) → 1 ≤ v → v ≤ 6 → length key_ones ≡ 10 → length key_zeros ≡ 10 → p ≤ 254
     → block.ones < 2 ^ width_of v → block.zeros < 2 ^ width_of v → contradicts block ≡ false → contradicts (key_given key_ones key_zeros) ≡ false
     → smudged_answer v block key_ones key_zeros p ≡ value (smudged_at v (key_given key_ones key_zeros) block p)
 answered v block key_ones key_zeros p least most ten ten' early fits fits' c c' =
     rw (variant_sound v least most, eq-eqb (length key_ones) 10 ten, eq-eqb (length key_zeros) 10 ten', le-ltb rounds p early, lt-leb (2 ^ width_of v) block.ones fits, lt-leb (2 ^ width_of v) block.zeros fits', c, c')
 
-join_answered : (v : ℕ) (block : KnownBits) (key_ones key_zeros : List ℕ) (other : KnownBits) (other_key_ones other_key_zeros : List ℕ) → 1 ≤ v → v ≤ 6
+join_answered : (v : ℕ) (block : Known ℕ) (key_ones key_zeros : List ℕ) (other : Known ℕ) (other_key_ones other_key_zeros : List ℕ) → 1 ≤ v → v ≤ 6
     → length key_ones ≡ 10 → length key_zeros ≡ 10 → length other_key_ones ≡ 10 → length other_key_zeros ≡ 10
     → block.ones < 2 ^ width_of v → block.zeros < 2 ^ width_of v → other.ones < 2 ^ width_of v → other.zeros < 2 ^ width_of v
     → contradicts (joined block other) ≡ false → contradicts (joined (key_given key_ones key_zeros) (key_given other_key_ones other_key_zeros)) ≡ false
@@ -65,7 +65,7 @@ join_answered v block key_ones key_zeros other other_key_ones other_key_zeros le
 -- ---- 7 before 16
 
 -- the checks before 7
-module _ (v : ℕ) (block : KnownBits) (ones zeros : List ℕ) (p : ℕ) (least : 1 ≤ v) (most : v ≤ 6) (ten : length ones ≡ 10) (ten' : length zeros ≡ 10) (early : p ≤ 254) where
+module _ (v : ℕ) (block : Known ℕ) (ones zeros : List ℕ) (p : ℕ) (least : 1 ≤ v) (most : v ≤ 6) (ten : length ones ≡ 10) (ten' : length zeros ≡ 10) (early : p ≤ 254) where
   key_passes : (key_parts_check ones zeros).fault ≡ false
   key_passes = rw (eq-eqb (length ones) 10 ten, eq-eqb (length zeros) 10 ten')
 
@@ -79,7 +79,7 @@ module _ (v : ℕ) (block : KnownBits) (ones zeros : List ℕ) (p : ℕ) (least 
       fault_after (variant_check v ∷ key_parts_check ones zeros ∷ position_check p ∷ block_parts_check v block ∷ []) (contradiction_check (key_given ones zeros) block) [] _
       (variant_sound v least most, (key_passes, (le-ltb rounds p early, (f, tt)))) h
 
-module _ (v : ℕ) (block : KnownBits) (ones zeros : List ℕ) (other : KnownBits) (other_ones other_zeros : List ℕ) (least : 1 ≤ v) (most : v ≤ 6)
+module _ (v : ℕ) (block : Known ℕ) (ones zeros : List ℕ) (other : Known ℕ) (other_ones other_zeros : List ℕ) (least : 1 ≤ v) (most : v ≤ 6)
     (a : length ones ≡ 10) (b : length zeros ≡ 10) (c : length other_ones ≡ 10) (d : length other_zeros ≡ 10) where
   sound : (variant_check v).fault ≡ false
   sound = variant_sound v least most

@@ -6,7 +6,7 @@ use Rattle.katan.specs.Key.{key_length}
 use Rattle.katan.specs.Variant.{width_of}
 use Rattle.katan_sheet.specs.Three.{Three, is0, is1, unknown, xor_three, and_three, known}
 use Rattle.katan_sheet.specs.Cells.{bits_at}
-use Rattle.katan_sheet.specs.declared.KnownBits.{KnownBits}
+use Rattle.katan_sheet.specs.declared.Known.{Known}
 
 -- a bit that is given as known as 1, as known as 0, or as neither; one that is given as both is refused (16)
 abbrev pub given : (one zero : ℕ) → Three
@@ -14,7 +14,7 @@ given (suc b) c = is1
 given zero (suc c) = is0
 given zero zero = unknown
 
-abbrev pub bits_given : (n : ℕ) → KnownBits → List Three
+abbrev pub bits_given : (n : ℕ) → Known ℕ → List Three
 bits_given n k = tabulate (λ i. given (bit k.ones i) (bit k.zeros i)) 0 n
 
 -- and how it is given
@@ -28,17 +28,17 @@ zero_of is0 = 1
 zero_of is1 = 0
 zero_of unknown = 0
 
-abbrev pub sheet_of : (n : ℕ) → List Three → KnownBits
+abbrev pub sheet_of : (n : ℕ) → List Three → Known ℕ
 sheet_of n bits = record { ones = from_bits (λ i. one_of (get_or bits i is0)) n; zeros = from_bits (λ i. zero_of (get_or bits i is0)) n }
 
 -- what is known of the registers at position p, with the block in them at position 0
-unfoldable pub smudged_at : (v : ℕ) → (key block : KnownBits) → (p : ℕ) → KnownBits
+unfoldable pub smudged_at : (v : ℕ) → (key block : Known ℕ) → (p : ℕ) → Known ℕ
 smudged_at v key block p = sheet_of (width_of v) (bits_at xor_three and_three known v (bits_given key_length key) (bits_given (width_of v) block) p)
 
 -- what either of two knows
-abbrev pub joined : KnownBits → KnownBits → KnownBits
+abbrev pub joined : Known ℕ → Known ℕ → Known ℕ
 joined k l = record { ones = or k.ones l.ones; zeros = or k.zeros l.zeros }
 
 -- a bit is known both as 0 and as 1
-abbrev pub contradicts : KnownBits → Bool
+abbrev pub contradicts : Known ℕ → Bool
 contradicts k = not (eqb (and k.ones k.zeros) 0)

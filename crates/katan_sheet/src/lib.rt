@@ -14,30 +14,81 @@ use std::ops::BitOr;
 
 // Bits of which some are unknown: those known as 1, and those known as 0.
 #[derive(Clone, Copy)]
-pub struct KnownBits {
-    pub ones: u64,
-    pub zeros: u64,
+pub struct Known<T> {
+    pub ones: T,
+    pub zeros: T,
 }
 
-// The same of a key.
-#[derive(Clone, Copy)]
-pub struct KnownKey {
-    pub ones: Key,
-    pub zeros: Key,
-}
+// Those of a block, and those of a key.
+pub type KnownBits = Known<u64>;
 
-// What is known of a block at position 0, and of its key.
+pub type KnownKey = Known<Key>;
+
+// What is known of a block at position 0, and of its key: in bytes as given, or as a key.
 #[derive(Clone, Copy)]
-pub struct Sheet {
+pub struct Sheet<K> {
     pub block: KnownBits,
-    pub key: KnownKey,
+    pub key: Known<K>,
+}
+
+impl<T> Known<T> {
+    // The same of each part.
+    pub fn map<U, F: Fn(T) -> U>(self, f: F) -> Known<U>
+        requires { F.pre f self.ones × F.pre f self.zeros }
+        ensures { F.post f self.ones result.ones × F.post f self.zeros result.zeros }
+    {
+        Known {
+            ones: f(self.ones),
+            zeros: f(self.zeros),
+        }
+    }
+}
+
+// What either knows.
+impl BitOr<KnownBits> for KnownBits {
+    type Output = KnownBits;
+
+    ghost can_bitor = { λ a b. Unit {0} };
+
+    ghost bitor_gives = { λ a b r. r ≡ joined a b };
+
+    fn bitor(self, other: KnownBits) -> KnownBits {
+        Known {
+            ones: self.ones | other.ones,
+            zeros: self.zeros | other.zeros,
+        }
+    }
+}
+
+impl BitOr<KnownKey> for KnownKey {
+    type Output = KnownKey;
+
+    ghost can_bitor = { λ a b. Unit {0} };
+
+    ghost bitor_gives = { λ a b r. key_known r ≡ joined (key_known a) (key_known b) };
+
+    fn bitor(self, other: KnownKey) -> KnownKey {
+        Known {
+            ones: join_part(self.ones, other.ones),
+            zeros: join_part(self.zeros, other.zeros),
+        }
+    }
+}
+
+fn join_part(a: Key, b: Key) -> Key
+    ensures { key_number result ≡ or (key_number a) (key_number b) }
+{
+    Key {
+        low: a.low | b.low,
+        high: a.high | b.high,
+    }
 }
 
 // Check 2 of a key's two parts.
-pub fn bad_length(ones: &[u8], zeros: &[u8]) -> bool
-    ensures { result ≡ (key_parts_check ones.now zeros.now).fault }
+pub fn bad_length(key: Known<&[u8]>) -> bool
+    ensures { result ≡ (key_parts_check key.entry.ones.now key.entry.zeros.now).fault }
 {
-    ones.len() != KEY_BYTES || zeros.len() != KEY_BYTES
+    key.ones.len() != KEY_BYTES || key.zeros.len() != KEY_BYTES
 }
 
 // Check 7 of a block's two numbers.
@@ -57,78 +108,27 @@ pub fn contradictory(block: KnownBits, key: KnownKey) -> bool
 }
 
 // A key from the first 10 bytes of each part.
-pub fn key_of(ones: &[u8], zeros: &[u8]) -> KnownKey
-    ensures { result ≡ key_in ones.now zeros.now }
+pub fn key_of(key: Known<&[u8]>) -> KnownKey
+    ensures { result ≡ key_in key.entry.ones.now key.entry.zeros.now }
 {
-    KnownKey {
-        ones: katan_numbers::key_of(ones),
-        zeros: katan_numbers::key_of(zeros),
-    }
-}
-
-// What either knows.
-impl BitOr<KnownBits> for KnownBits {
-    type Output = KnownBits;
-
-    ghost can_bitor = { λ a b. Unit {0} };
-
-    ghost bitor_gives = { λ a b r. r ≡ joined a b };
-
-    fn bitor(self, other: KnownBits) -> KnownBits {
-        KnownBits {
-            ones: self.ones | other.ones,
-            zeros: self.zeros | other.zeros,
-        }
-    }
-}
-
-impl BitOr<KnownKey> for KnownKey {
-    type Output = KnownKey;
-
-    ghost can_bitor = { λ a b. Unit {0} };
-
-    ghost bitor_gives = { λ a b r. key_known r ≡ joined (key_known a) (key_known b) };
-
-    fn bitor(self, other: KnownKey) -> KnownKey {
-        KnownKey {
-            ones: join_part(self.ones, other.ones),
-            zeros: join_part(self.zeros, other.zeros),
-        }
-    }
-}
-
-fn join_part(a: Key, b: Key) -> Key
-    ensures { key_number result ≡ or (key_number a) (key_number b) }
-{
-    Key {
-        low: a.low | b.low,
-        high: a.high | b.high,
-    }
+    key.map(|bytes| katan_numbers::key_of(bytes))
 }
 
 // What either of two sheets of one block knows, of the block and of the key.
-pub fn join(
-    variant: u8,
-    block: KnownBits,
-    key_ones: &[u8],
-    key_zeros: &[u8],
-    other: KnownBits,
-    other_key_ones: &[u8],
-    other_key_zeros: &[u8],
-) -> Result<Sheet, Refusal>
-    ensures { outcome_by sheet_known result ≡ join_answer variant block key_ones.now key_zeros.now other other_key_ones.now other_key_zeros.now }
+pub fn join(variant: u8, sheet: Sheet<&[u8]>, other: Sheet<&[u8]>) -> Result<Sheet<Key>, Refusal>
+    ensures { outcome_by sheet_known result ≡ join_answer variant sheet.entry.block sheet.entry.key.ones.now sheet.entry.key.zeros.now other.entry.block other.entry.key.ones.now other.entry.key.zeros.now }
 {
     let row = katan_variants::row_of(variant)?;
-    if bad_length(key_ones, key_zeros) || bad_length(other_key_ones, other_key_zeros) {
+    if bad_length(sheet.key) || bad_length(other.key) {
         return Err(Refusal::BadLength);
     }
-    if too_wide(row.n, block) || too_wide(row.n, other) {
+    if too_wide(row.n, sheet.block) || too_wide(row.n, other.block) {
         return Err(Refusal::BadBlock);
     }
-    let known = block | other;
-    let key = key_of(key_ones, key_zeros) | key_of(other_key_ones, other_key_zeros);
-    if contradictory(known, key) {
+    let block = sheet.block | other.block;
+    let key = key_of(sheet.key) | key_of(other.key);
+    if contradictory(block, key) {
         return Err(Refusal::Contradiction);
     }
-    Ok(Sheet { block: known, key })
+    Ok(Sheet { block, key })
 }

@@ -22,7 +22,7 @@ use Rattle.katan_sheet.specs.Three.{Three, is0, xor_three, and_three, known}
 use Rattle.katan_sheet.specs.Cells.{Cells, cells, block_of, bits_at}
 use Rattle.katan_sheet.specs.Sheet.{given, bits_given, one_of, zero_of, sheet_of, smudged_at, contradicts}
 use Rattle.katan_smudged.specs.inner.Words.{registers_words, block_words, Fit, RegistersFit, Reads, Holds, HoldsCells, source_at, run_three}
-use Rattle.katan_sheet.specs.declared.KnownBits.{KnownBits}
+use Rattle.katan_sheet.specs.declared.Known.{Known}
 use Rattle.katan_smudged.specs.declared.words.KnownRegisters.{KnownRegisters}
 use Rattle.katan_sheet.proofs.Lengths.{Sized, length_run}
 use Rattle.katan_sheet.proofs.Blocks.{start_has, block_has}
@@ -30,10 +30,10 @@ use Rattle.katan_sheet.proofs.Sheets.{one_given, zero-given, sheet_is, not_both}
 
 -- ---- a sheet's numbers hold its bits
 
-pub length-given : (n : ℕ) (k : KnownBits) → length (bits_given n k) ≡ n
+pub length-given : (n : ℕ) (k : Known ℕ) → length (bits_given n k) ≡ n
 length-given n k = length-tabulate (λ i. given (bit k.ones i) (bit k.zeros i)) 0 n
 
-given_reads : (k : KnownBits) → contradicts k ≡ false → (i : ℕ) → Reads k i (given (bit k.ones i) (bit k.zeros i))
+given_reads : (k : Known ℕ) → contradicts k ≡ false → (i : ℕ) → Reads k i (given (bit k.ones i) (bit k.zeros i))
 given_reads k c i =
     record {
       one_there = sym (one_given _ _ (bit_lt k.ones i));
@@ -41,7 +41,7 @@ given_reads k c i =
     }
 
 -- the key, at position 0: k(i) is key bit i for i below 80
-pub key_holds : (v : ℕ) (key : KnownBits) → Fit key_length key → contradicts key ≡ false → Holds key_length key (source_at v (bits_given key_length key) 0)
+pub key_holds : (v : ℕ) (key : Known ℕ) → Fit key_length key → contradicts key ≡ false → Holds key_length key (source_at v (bits_given key_length key) 0)
 key_holds v key f c =
     record {
       fit = f;
@@ -59,11 +59,11 @@ key_holds v key f c =
     source_is i q false = bit_is i q
 
 -- both words' registers
-pub registers_are : (v : Row) (k : KnownBits) (o z : Registers) → o ≡ registers v k.ones → z ≡ registers v k.zeros
+pub registers_are : (v : Row) (k : Known ℕ) (o z : Registers) → o ≡ registers v k.ones → z ≡ registers v k.zeros
     → record { l1 = record { ones = o.l1; zeros = z.l1 }; l2 = record { ones = o.l2; zeros = z.l2 } } ≡ registers_words v k
 registers_are v k o z e f = rw (e, f)
 
-module _ (v : Row) (t : Sound v) (k : KnownBits) (f : Fit v.n k) where
+module _ (v : Row) (t : Sound v) (k : Known ℕ) (f : Fit v.n k) where
   pub loaded_fits : RegistersFit v (registers_words v k)
   loaded_fits =
       let o = registers_fit v t k.ones f.ones_fit in
@@ -110,7 +110,7 @@ module _ (v : Row) (t : Sound v) (s : KnownRegisters) (c : Cells Three) (size : 
       sym (sheet_is v.n (block_of c) (block_words v s) (word_fits one_of ones fo eo) (word_fits zero_of zeros fz ez) (word-bits one_of ones fo eo) (word-bits zero_of zeros fz ez))
 
 -- LAW: registers that hold what p rounds make of a sheet give its result
-pub result_is : (v : ℕ) (key block : KnownBits) (p : ℕ) (s : KnownRegisters)
+pub result_is : (v : ℕ) (key block : Known ℕ) (p : ℕ) (s : KnownRegisters)
     → HoldsCells (row_of v) s (run_three v (bits_given key_length key) p (cells (row_of v) (bits_given (width_of v) block))) → block_words (row_of v) s ≡ smudged_at v key block p
 unfolding smudged_at bits_at
 result_is v key block p s h =

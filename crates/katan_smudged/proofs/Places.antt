@@ -18,14 +18,14 @@ use Rattle.katan_sheet.specs.Three.{Three, is0, is1, unknown, xor_three, and_thr
 use Rattle.katan_sheet.specs.Cells.{Cells, shifted, clock_cells, clocks_cells}
 use Rattle.katan_sheet.specs.Sheet.{one_of, zero_of}
 use Rattle.katan_smudged.specs.inner.Words.{term, plus, settled, times, from, fa_words, fb_words, enter, entered_words, clock_words, clocks_words, Fit, RegistersFit, Reads, Holds, HoldsCells}
-use Rattle.katan_sheet.specs.declared.KnownBits.{KnownBits}
+use Rattle.katan_sheet.specs.declared.Known.{Known}
 use Rattle.katan_smudged.specs.declared.words.Sum.{Sum}
 use Rattle.katan_smudged.specs.declared.words.KnownRegisters.{KnownRegisters}
 use Rattle.katan_smudged.specs.declared.words.KnownInput.{KnownInput}
 
 -- ---- registers stay within their lengths
 
-enter_fits : (w : ℕ) (l b : KnownBits) → Fit w (enter w l b)
+enter_fits : (w : ℕ) (l b : Known ℕ) → Fit w (enter w l b)
 unfolding enter
 enter_fits w l b = record { ones_fit = mod-lt _ (pow_pos w); zeros_fit = mod-lt _ (pow_pos w) }
 
@@ -103,7 +103,7 @@ pub record Sums (s : Sum) (i : ℕ) (t : Three) : Type 0 where
   pub value_there : and (bit s.known i) (bit s.value i) ≡ one_of t
 
 module _ {i : ℕ} where
-  pub term_sums : {a : KnownBits} {t : Three} → Reads a i t → Sums (term a) i t
+  pub term_sums : {a : Known ℕ} {t : Three} → Reads a i t → Sums (term a) i t
   unfolding term
   term_sums {a} {t} h =
       let k = bit_or a.ones a.zeros i ∙ ap₂ or h.one_there h.zero_there in
@@ -128,7 +128,7 @@ module _ {i : ℕ} where
       let o = bit_and s.known s.value i ∙ h.value_there in
       record { one_there = o; zero_there = bit_xor s.known _ i ∙ ap₂ xor h.known_there o ∙ settled_zero t }
 
-  pub times_reads : {a b : KnownBits} {t u : Three} → Reads a i t → Reads b i u → Reads (times a b) i (and_three t u)
+  pub times_reads : {a b : Known ℕ} {t u : Three} → Reads a i t → Reads b i u → Reads (times a b) i (and_three t u)
   unfolding times
   times_reads {a} {b} {t} {u} h g =
       record {
@@ -136,18 +136,18 @@ module _ {i : ℕ} where
         zero_there = bit_or a.zeros b.zeros i ∙ ap₂ or h.zero_there g.zero_there ∙ times_zero t u;
       }
 
-  pub from_reads : (l : KnownBits) (j : ℕ) {t : Three} → Reads l (j + i) t → Reads (from l j) i t
+  pub from_reads : (l : Known ℕ) (j : ℕ) {t : Three} → Reads l (j + i) t → Reads (from l j) i t
   unfolding from
   from_reads l j h =
       record { one_there = bit-shr l.ones j i ∙ h.one_there; zero_there = bit-shr l.zeros j i ∙ h.zero_there }
 
 -- ---- the formulas: the bits of taps stand lowest
 
-module _ (v : Row) (s : Sound v) (l : KnownBits) (f : ℕ → Three) where
+module _ (v : Row) (s : Sound v) (l : Known ℕ) (f : ℕ → Three) where
   tap : (w j : ℕ) → Holds w l f → j < w → Reads (from l j) 0 (f j)
   tap w j h q = from_reads l j (subst (λ (m : ℕ). Reads l m (f j)) (sym (add-zero j)) (h.reads j q))
 
-  fa_reads : Holds v.len1 l f → {ir ka : KnownBits} {t u : Three} → Reads ir 0 t → Reads ka 0 u → Reads (fa_words v l ir ka) 0 (fa xor_three and_three v f t u)
+  fa_reads : Holds v.len1 l f → {ir ka : Known ℕ} {t u : Three} → Reads ir 0 t → Reads ka 0 u → Reads (fa_words v l ir ka) 0 (fa xor_three and_three v f t u)
   unfolding fa_words
   fa_reads h p q =
       let x : (j : ℕ) → j < v.len1 → Reads (from l j) 0 (f j) = λ j r. tap v.len1 j h r in
@@ -159,7 +159,7 @@ module _ (v : Row) (s : Sound v) (l : KnownBits) (f : ℕ → Three) where
       (term_sums (times_reads (x v.x5 (omega (arith, s))) p)))
       (term_sums q)))
 
-  fb_reads : Holds v.len2 l f → {kb : KnownBits} {u : Three} → Reads kb 0 u → Reads (fb_words v l kb) 0 (fb xor_three and_three v f u)
+  fb_reads : Holds v.len2 l f → {kb : Known ℕ} {u : Three} → Reads kb 0 u → Reads (fb_words v l kb) 0 (fb xor_three and_three v f u)
   unfolding fb_words
   fb_reads h q =
       let y : (j : ℕ) → j < v.len2 → Reads (from l j) 0 (f j) = λ j r. tap v.len2 j h r in
@@ -187,7 +187,7 @@ module _ (h : Three → ℕ) (m w : ℕ) (e : m + 1 ≡ w) (xs : List Three) (t 
       (λ j r. ap h (there (suc j) (omega arith)))
       i q)
 
-enter_holds : (m w : ℕ) → m + 1 ≡ w → (xs : List Three) (t : Three) (l b : KnownBits) → Holds w l (λ i. get_or xs i is0) → Reads b 0 t → Holds w (enter w l b) (λ i. get_or (shifted w xs t) i is0)
+enter_holds : (m w : ℕ) → m + 1 ≡ w → (xs : List Three) (t : Three) (l b : Known ℕ) → Holds w l (λ i. get_or xs i is0) → Reads b 0 t → Holds w (enter w l b) (λ i. get_or (shifted w xs t) i is0)
 unfolding enter
 enter_holds m w e xs t l b h r =
     record {

@@ -10,9 +10,9 @@ use Rattle.katan.specs.Counter.{rounds}
 use Rattle.katan.proofs.Checked.{no_fault_found, fault_after}
 use Rattle.katan_sheet.specs.Sheet.{smudged_at}
 use Rattle.katan_sheet.specs.Answers.{key_given, key_parts_check, block_parts_check, contradiction_check, smudged_answer}
-use Rattle.katan_sheet.specs.declared.KnownBits.{KnownBits}
+use Rattle.katan_sheet.specs.declared.Known.{Known}
 
-module _ (v : ℕ) (block : KnownBits) (ones zeros : List ℕ) (p : ℕ) (sound : (variant_check v).fault ≡ false) where
+module _ (v : ℕ) (block : Known ℕ) (ones zeros : List ℕ) (p : ℕ) (sound : (variant_check v).fault ≡ false) where
   abbrev two : Check
   two = key_parts_check ones zeros
 

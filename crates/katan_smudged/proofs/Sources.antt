@@ -20,13 +20,13 @@ use Rattle.katan_keys.proofs.Running.{slid_lt, slid_bits}
 use Rattle.katan_sheet.specs.Three.{Three, is0, xor_three, known}
 use Rattle.katan_sheet.specs.Sheet.{one_of, zero_of}
 use Rattle.katan_smudged.specs.inner.Words.{following, Tables, known_words, source_bit, input_from, input_words, source_bits, following_in, next_source, Reads, Holds, source_at, Follows}
-use Rattle.katan_sheet.specs.declared.KnownBits.{KnownBits}
-use Rattle.katan_smudged.specs.declared.words.KnownSource.{KnownSource}
+use Rattle.katan_sheet.specs.declared.Known.{Known}
+use Rattle.katan_keys.specs.declared.Window.{Window}
 use Rattle.katan_smudged.proofs.Places.{term_sums, plus_sums, settled_reads, from_reads}
 
 -- ---- the input of a round
 
-pub input_made : (t x : ℕ) (w : KnownSource) (i j : ℕ) (ka kb : KnownBits) → x ≡ t → ka ≡ source_bit w i → kb ≡ source_bit w j
+pub input_made : (t x : ℕ) (w : Known Window) (i j : ℕ) (ka kb : Known ℕ) → x ≡ t → ka ≡ source_bit w i → kb ≡ source_bit w j
     → record { ir = known_words (ir_of x); ka = ka; kb = kb } ≡ input_from t w i j
 input_made t x w i j ka kb e f g = rw (e, f, g)
 
@@ -34,7 +34,7 @@ input_made t x w i j ka kb e f g = rw (e, f, g)
 bit_alone : (x i : ℕ) → bit (bit x i) 0 ≡ bit x i
 bit_alone x i = bit_lowest (bit x i) ∙ mod-eq_of_lt (bit_lt x i)
 
-source_reads : (w : KnownSource) (f : ℕ → Three) (i : ℕ) (t : Three) → Holds key_length (source_bits w) f → i < key_length → f i ≡ t → Reads (source_bit w i) 0 t
+source_reads : (w : Known Window) (f : ℕ → Three) (i : ℕ) (t : Three) → Holds key_length (source_bits w) f → i < key_length → f i ≡ t → Reads (source_bit w i) 0 t
 source_reads w f i t h q e =
     let r = h.reads i q in
     record {
@@ -47,7 +47,7 @@ known_reads zero h = record { one_there = refl; zero_there = refl }
 known_reads (suc zero) h = record { one_there = refl; zero_there = refl }
 known_reads (suc (suc b)) h = absurd (omega arith)
 
-module _ (v : ℕ) (counters numbers : List ℕ) (ts : Tables counters numbers) (key : List Three) (l : length key ≡ key_length) (r : ℕ) (q : r < rounds) (w : KnownSource) (h : Holds key_length (source_bits w) (source_at v key r)) where
+module _ (v : ℕ) (counters numbers : List ℕ) (ts : Tables counters numbers) (key : List Three) (l : length key ≡ key_length) (r : ℕ) (q : r < rounds) (w : Known Window) (h : Holds key_length (source_bits w) (source_at v key r)) where
   counter_is : get_or counters r 0 ≡ counter r
   counter_is = ap (λ (xs : List ℕ). get_or xs r 0) ts.0 ∙ entry counter rounds r 0 q
 
@@ -77,11 +77,11 @@ module _ (v : ℕ) (counters numbers : List ℕ) (ts : Tables counters numbers) 
 
 -- ---- the source of the next position
 
-module _ (w : KnownSource) (ones_low : w.ones.low < 2 ^ 64) (zeros-low : w.zeros.low < 2 ^ 64) where
-  abbrev low : KnownBits
+module _ (w : Known Window) (ones_low : w.ones.low < 2 ^ 64) (zeros-low : w.zeros.low < 2 ^ 64) where
+  abbrev low : Known ℕ
   low = record { ones = w.ones.low; zeros = w.zeros.low }
 
-  abbrev high : KnownBits
+  abbrev high : Known ℕ
   high = record { ones = w.ones.high; zeros = w.zeros.high }
 
   low_reads : (m : ℕ) (t : Three) → m < 64 → Reads (source_bits w) m t → Reads low m t
@@ -151,13 +151,13 @@ module _ (w : KnownSource) (ones_low : w.ones.low < 2 ^ 64) (zeros-low : w.zeros
       by_kind false g = g
 
   -- LAW: the source moves along
-  pub source_follows : (v : ℕ) (r : KnownSource) → source_bits r ≡ next_source v w → Follows v w r
-  source_follows v r e key p l h = subst (λ (k : KnownBits). Holds key_length k (source_at v key (suc p))) (sym e) (next_holds v key l p h)
+  pub source_follows : (v : ℕ) (r : Known Window) → source_bits r ≡ next_source v w → Follows v w r
+  source_follows v r e key p l h = subst (λ (k : Known ℕ). Holds key_length k (source_at v key (suc p))) (sym e) (next_holds v key l p h)
 
 -- by the kind of variant
-pub katan_next : (v : ℕ) (w r : KnownSource) (e : KnownBits) → is_katan v ≡ true → e ≡ following_in w
+pub katan_next : (v : ℕ) (w r : Known Window) (e : Known ℕ) → is_katan v ≡ true → e ≡ following_in w
     → window_number r.ones ≡ slid 1 e.ones (window_number w.ones) → window_number r.zeros ≡ slid 1 e.zeros (window_number w.zeros) → source_bits r ≡ next_source v w
 katan_next v w r e k f g h = rw (k, g, h, f)
 
-pub ktantan_next : (v : ℕ) (w : KnownSource) → is_katan v ≡ false → source_bits w ≡ next_source v w
+pub ktantan_next : (v : ℕ) (w : Known Window) → is_katan v ≡ false → source_bits w ≡ next_source v w
 ktantan_next v w k = rw k

@@ -11,7 +11,7 @@ ghost use Rattle.katan_smudged.specs.inner.Words.{clocks_words, registers_words,
 
 use crate::words::{KnownInput, KnownRegisters, KnownSource, clocks, following};
 use katan::{Registers, RoundPosition, Row};
-use katan_sheet::{KnownBits, KnownKey};
+use katan_sheet::{Known, KnownBits, KnownKey};
 use katan_variants::{Bits32, Bits48, Bits64, Tables, Width};
 
 // The registers at a position, and its source.
@@ -24,10 +24,7 @@ struct Running {
 fn source_bit(w: KnownSource, i: usize) -> KnownBits
     ensures { result ≡ source_bit w i }
 {
-    KnownBits {
-        ones: katan_keys::bit_at(w.ones, i),
-        zeros: katan_keys::bit_at(w.zeros, i),
-    }
+    w.map(|w| katan_keys::bit_at(w, i))
 }
 
 // IR, which is known, from the round's T; and ka and kb, which have these places in the source.
@@ -36,7 +33,7 @@ fn input_from(counter: u8, w: KnownSource, ka: usize, kb: usize) -> KnownInput
 {
     let ir = (u64::from(counter) >> 7) % 2;
     KnownInput {
-        ir: KnownBits {
+        ir: Known {
             ones: ir,
             zeros: 1 - ir,
         },
@@ -64,16 +61,8 @@ fn next_source(variant: u8, w: KnownSource) -> KnownSource
     ensures { Follows variant w result }
 {
     if katan_variants::is_katan(variant) {
-        let low = KnownBits {
-            ones: w.ones.low,
-            zeros: w.zeros.low,
-        };
-        let high = KnownBits {
-            ones: w.ones.high,
-            zeros: w.zeros.high,
-        };
-        let e = following(low, high);
-        return KnownSource {
+        let e = following(w.map(|w| w.low), w.map(|w| w.high));
+        return Known {
             ones: katan_keys::slide(w.ones, e.ones),
             zeros: katan_keys::slide(w.zeros, e.zeros),
         };
@@ -121,17 +110,10 @@ fn run_of(variant: u8, start: Running, to: RoundPosition) -> KnownRegisters
 fn registers_of(row: Row, block: KnownBits) -> KnownRegisters
     ensures { result ≡ registers_words row block }
 {
-    let ones = katan_numbers::registers_of(row, block.ones);
-    let zeros = katan_numbers::registers_of(row, block.zeros);
+    let s = block.map(|x| katan_numbers::registers_of(row, x));
     KnownRegisters {
-        l1: KnownBits {
-            ones: ones.l1,
-            zeros: zeros.l1,
-        },
-        l2: KnownBits {
-            ones: ones.l2,
-            zeros: zeros.l2,
-        },
+        l1: s.map(|s| s.l1),
+        l2: s.map(|s| s.l2),
     }
 }
 
@@ -146,7 +128,7 @@ fn block_of(row: Row, s: KnownRegisters) -> KnownBits
         l1: s.l1.zeros,
         l2: s.l2.zeros,
     };
-    KnownBits {
+    Known {
         ones: katan_numbers::block_of(row, ones),
         zeros: katan_numbers::block_of(row, zeros),
     }
@@ -156,10 +138,7 @@ fn block_of(row: Row, s: KnownRegisters) -> KnownBits
 fn source_of(key: KnownKey) -> KnownSource
     ensures { (source_bits result ≡ key_known key) × Fit key_length (source_bits result) }
 {
-    KnownSource {
-        ones: katan_keys::key_words(key.ones),
-        zeros: katan_keys::key_words(key.zeros),
-    }
+    key.map(|k| katan_keys::key_words(k))
 }
 
 // What is known of the registers at a position, with the block in them at position 0.

@@ -5,7 +5,7 @@ ghost use Rattle.katan.specs.Clock.{shift_in};
 ghost use Rattle.katan_smudged.specs.inner.Words.{term as term_of, plus, settled as settled_of, times as times_of, from, fa_words, fb_words, enter as enter_of, entered_words, clock_words, clocks_words, following as following_of};
 
 use katan_keys::Window;
-use katan_sheet::KnownBits;
+use katan_sheet::{Known, KnownBits};
 use katan_variants::Width;
 use std::ops::BitXor;
 
@@ -31,12 +31,8 @@ pub struct KnownInput {
     pub kb: KnownBits,
 }
 
-// What a round finds its key bits in, a KATAN's window or a KTANTAN's key: those known as 1, and those known as 0.
-#[derive(Clone, Copy)]
-pub struct KnownSource {
-    pub ones: Window,
-    pub zeros: Window,
-}
+// What a round finds its key bits in, a KATAN's window or a KTANTAN's key.
+pub type KnownSource = Known<Window>;
 
 fn term(a: KnownBits) -> Sum
     ensures { result ≡ term_of a }
@@ -66,7 +62,7 @@ fn settled(s: Sum) -> KnownBits
     ensures { result ≡ settled_of s }
 {
     let ones = s.known & s.value;
-    KnownBits {
+    Known {
         ones,
         zeros: s.known ^ ones,
     }
@@ -76,7 +72,7 @@ fn settled(s: Sum) -> KnownBits
 fn product(a: KnownBits, b: KnownBits) -> Sum
     ensures { result ≡ term_of (times_of a b) }
 {
-    term(KnownBits {
+    term(Known {
         ones: a.ones & b.ones,
         zeros: a.zeros | b.zeros,
     })
@@ -87,10 +83,7 @@ fn at(l: KnownBits, i: usize) -> KnownBits
     requires { i < 64 }
     ensures { result ≡ from l i }
 {
-    KnownBits {
-        ones: l.ones >> i,
-        zeros: l.zeros >> i,
-    }
+    l.map(|x| x >> i)
 }
 
 // fa and fb at a width. Its row is a constant there, so its taps are compiled in.
@@ -124,7 +117,7 @@ fn enter(w: usize, l: KnownBits, b: KnownBits) -> KnownBits
     requires { w < 64 }
     ensures { result ≡ enter_of w l b }
 {
-    KnownBits {
+    Known {
         ones: shift_in(w, l.ones, b.ones),
         zeros: shift_in(w, l.zeros, b.zeros),
     }
@@ -156,9 +149,5 @@ pub fn clocks<W: Width>(u: KnownInput, s: KnownRegisters) -> KnownRegisters
 pub fn following(low: KnownBits, high: KnownBits) -> KnownBits
     ensures { result ≡ following_of low high }
 {
-    let k80 = term(low);
-    let k61 = term(at(low, 19));
-    let k50 = term(at(low, 30));
-    let k13 = term(at(high, 3));
-    settled(k80 ^ k61 ^ k50 ^ k13)
+    settled(term(low) ^ term(at(low, 19)) ^ term(at(low, 30)) ^ term(at(high, 3)))
 }

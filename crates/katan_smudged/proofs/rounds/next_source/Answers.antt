@@ -1,18 +1,17 @@
-use mathlib.Core.Path.{◌≡◌, sym, ◌∙◌}
-use Rattle.katan_smudged.proofs.Sources.{source_follows, katan_next, ktantan_next}
-use mathlib.Core.Bool.{true, false}
-use Rattle.katan.specs.Variant.{is_katan}
+use mathlib.Core.Path.{◌≡◌, sym, ap₂, ◌∙◌}
+use mathlib.Core.Bool.{true}
 use borrow.Author.Rules.{rules}
+use Rattle.katan.specs.Variant.{is_katan}
+use Rattle.katan_sheet.proofs.Sheets.{sheet}
+use Rattle.katan_smudged.specs.inner.Words.{following}
+use Rattle.katan_smudged.proofs.Sources.{source_follows, katan_next}
 use Rattle.katan_smudged.proofs.rounds.next_source.Goals as goal
 
 pub returns-then-is_katan : goal.returns-then-is_katan
 returns-then-is_katan c =
-    let a = c.args in
-    let kind : is_katan a.variant ≡ true = sym c.is_katan.ensures ∙ c.if-is_katan.true in
-    source_follows a.w (search rules) (search rules) a.variant _ (katan_next a.variant a.w _ _ kind c.following-e.ensures c.slide.ensures c.slide-then-is_katan.ensures)
-
-pub returns : goal.returns
-returns c =
-    let a = c.args in
-    let kind : is_katan a.variant ≡ false = sym c.is_katan.ensures ∙ c.if-is_katan.false in
-    source_follows a.w (search rules) (search rules) a.variant a.w (ktantan_next a.variant a.w kind)
+    let w = c.args.w in
+    let v = c.args.variant in
+    let kind : is_katan v ≡ true = sym c.is_katan.ensures ∙ c.if-is_katan.true in
+    let low : c.map.result ≡ sheet w.ones.low w.zeros.low = search rules in
+    let high : c.map-then-is_katan.result ≡ sheet w.ones.high w.zeros.high = search rules in
+    source_follows w (search rules) (search rules) v _ (katan_next v w _ _ kind (c.following-e.ensures ∙ ap₂ following low high) c.slide.ensures c.slide-then-is_katan.ensures)

@@ -1,7 +1,7 @@
-use mathlib.Core.Path.{refl}
+use borrow.Author.Rules.{rules}
 use Rattle.katan_smudged.specs.inner.Words.{from}
 use Rattle.katan_smudged.proofs.words.at.Goals as goal
 
 pub returns : goal.returns
 unfolding from
-returns c = refl
+returns c = search rules
