@@ -2,14 +2,12 @@
 -- Assumes nothing.
 use Rattle.std.specs.Prelude.{ℕ, List, [], ◌∷◌, eqb, get_or}
 use Rattle.katan.specs.Bit.{bit, pick, tabulate, from_bits}
-use Rattle.katan.specs.Checks.{number_of, Outcome, value, refused, Check, checked, size_check}
+use Rattle.katan.specs.Checks.{Outcome, value, Check, checked, size_check}
 use Rattle.katan.specs.Lent.{lent_after}
 use Rattle.katan.specs.Sizes.{lane_count}
 use Rattle.bench.specs.declared.Bench.{Bench}
 use Rattle.bench.specs.Checks.{LaneView, empty_lane, loaded_lane}
 use Rattle.bench.specs.Bench.{lanes_of, held_check}
-use Rattle.bench_screen.specs.declared.ScreenAnswer.{ScreenAnswer}
-use Rattle.bench_screen.specs.declared.ScreenAnswer.TheVariants.{Shown, Refused}
 
 -- ---- one lane, with its bit of the mask
 
@@ -57,8 +55,3 @@ screen_answer b m out = checked (screen_checks b m out) (value (mask_shown m (la
 -- what the output holds afterwards: a refusal leaves it as it was
 abbrev pub screen_numbers : Bench → ℕ → List ℕ → List ℕ
 screen_numbers b m out = lent_after (λ x. numbers_shown m (lanes_of b)) (screen_answer b m out) out
-
--- what the code gives back
-abbrev pub screen_outcome : ScreenAnswer → Outcome ℕ
-screen_outcome (Shown m) = value m
-screen_outcome (Refused r) = refused (number_of r)

@@ -1,3 +1,2 @@
 pub mod Effects
 pub mod ReadCases
-mod Values

@@ -6,18 +6,17 @@ ghost use Rattle.bench.specs.Steps.{loaded_by, slots_as, total_as};
 ghost use Rattle.bench_moves.specs.Moves.{with_slots};
 ghost use Rattle.bench_moves.specs.inner.Sound.{SoundBench};
 
-use bench::{Bench, Lane, Loaded, Slot};
+use bench::{Bench, Loaded};
 use bench_moves::{BenchStep, Motion, step_lanes};
-use bench_record::{BACK, CLEAR, FORWARD, LOAD, Record};
+use bench_record::{Kind, Record};
 use katan::RoundPosition;
 
 // What a load puts into its lane.
 fn loaded_by(fields: Record) -> Loaded
     ensures { result ≡ loaded_by fields }
 {
-    let key = fields.key;
     Loaded {
-        key: key,
+        key: fields.key,
         position: RoundPosition(fields.count),
         registers: fields.block,
     }
@@ -27,15 +26,9 @@ fn load(bench: Bench, fields: Record) -> Bench
     requires { fields.lane < lane_count }
     ensures { result ≡ with_slots bench (slots_as bench.variant load_kind fields bench.slots) }
 {
-    let variant = bench.variant;
-    let mut slots = bench.slots;
-    let at = fields.lane as usize;
-    let to = Lane::Held(loaded_by(fields));
-    slots[at] = Slot { lane: to };
-    Bench {
-        variant: variant,
-        slots: slots,
-    }
+    let mut after = bench;
+    after.slots[usize::from(fields.lane)] = Some(loaded_by(fields));
+    after
 }
 
 // The step that the kind names.
@@ -43,23 +36,15 @@ pub fn step(bench: Bench, fields: Record) -> BenchStep
     requires { SoundBench bench × (fields.lane < lane_count) }
     ensures { (result.bench ≡ with_slots bench (slots_as bench.variant (kind fields) fields bench.slots)) × (result.total ≡ total_as (kind fields) fields bench.slots) }
 {
-    let kind = fields.kind;
-    let count = fields.count;
     let mask = fields.mask;
-    match kind {
-        LOAD => {
-            let after = load(bench, fields);
-            BenchStep {
-                bench: after,
-                total: 0,
-            }
-        }
-        FORWARD => step_lanes(bench, Motion::Forward(count), mask),
-        BACK => step_lanes(bench, Motion::Back(count), mask),
-        CLEAR => step_lanes(bench, Motion::Clear, mask),
-        _ => BenchStep {
-            bench: bench,
+    match Kind::try_from(fields.kind) {
+        Ok(Kind::Load) => BenchStep {
+            bench: load(bench, fields),
             total: 0,
         },
+        Ok(Kind::Forward) => step_lanes(bench, Motion::Forward(fields.count), mask),
+        Ok(Kind::Back) => step_lanes(bench, Motion::Back(fields.count), mask),
+        Ok(Kind::Clear) => step_lanes(bench, Motion::Clear, mask),
+        Err(_) => BenchStep { bench, total: 0 },
     }
 }

@@ -1,6 +1,6 @@
 use mathlib.Core.Path.{◌≡◌}
 use mathlib.Core.List.{◌++◌}
-use Prim.Native.Nat.{◌+◌, ◌*◌, ◌-◌, ◌≤◌}
+use Prim.Native.Nat.{◌+◌, ◌*◌, ◌/◌, ◌^◌, ◌≤◌}
 use lib.ListN.{length, take, drop}
 use Rattle.katan.specs.Sizes.{lane_count}
 use Rattle.bench.specs.Steps.{step_slots, moved_slots}
@@ -9,9 +9,6 @@ use Rattle.bench_moves.proofs.step_lanes.Given as goal
 
 abbrev pub invariant-loop-i : goal.invariant-loop-i
 invariant-loop-i l =
-    ((l.i ≤ lane_count) × (length l.slots ≡ lane_count) × (l.total ≤ 255 * l.i))
-    × (take l.i l.slots ++ step_slots (step_lane l.variant l.motion) l.rest (drop l.i l.slots) ≡ step_slots (step_lane l.variant l.motion) l.mask l.initial.slots)
-    × (l.total + moved_slots (move_lane l.variant l.motion) l.rest (drop l.i l.slots) ≡ moved_slots (move_lane l.variant l.motion) l.mask l.initial.slots)
-
-abbrev pub decreases-loop-i : goal.decreases-loop-i
-decreases-loop-i l = lane_count - l.i
+    ((length l.lane-items ≡ lane_count) × (l.total ≤ 255 * l.i))
+    × (take l.i l.lane-items ++ step_slots (step_lane l.variant l.motion) (l.mask / 2 ^ l.i) (drop l.i l.lane-items) ≡ step_slots (step_lane l.variant l.motion) l.mask l.initial.lane-items)
+    × (l.total + moved_slots (move_lane l.variant l.motion) (l.mask / 2 ^ l.i) (drop l.i l.lane-items) ≡ moved_slots (move_lane l.variant l.motion) l.mask l.initial.lane-items)

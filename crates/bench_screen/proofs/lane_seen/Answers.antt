@@ -1,15 +1,16 @@
-use mathlib.Core.Path.{refl}
+use mathlib.Core.Path.{sym, ◌∙◌}
+use borrow.Author.Tests.{eq-eqb, ne_eqb}
 use Rattle.bench_screen.specs.Screen.{number_shown, bit_shown}
 use Rattle.bench_screen.proofs.lane_seen.Goals as goal
 
-pub returns-in-Empty : goal.returns-in-Empty
+pub returns-in-None : goal.returns-in-None
 unfolding number_shown bit_shown
-returns-in-Empty c =
-    let e = c.in-Empty.is in
-    (c.bad_lane-bad.ensures, rw e refl, rw e refl)
+returns-in-None c = rw (sym c.bad_lane.ensures ∙ c.if-bad_lane.false, c.in-None.is)
 
-pub returns-in-Held : goal.returns-in-Held
+pub returns-then-named-eq1 : goal.returns-then-named-eq1
 unfolding number_shown bit_shown
-returns-in-Held c =
-    let e = c.in-Held.is in
-    (c.bad_lane-bad.ensures, rw e c.if_named-number.ensures, rw e refl)
+returns-then-named-eq1 c = rw (sym c.bad_lane.ensures ∙ c.if-bad_lane.false, c.in-Some.is, eq-eqb _ _ c.if-named-eq1.true)
+
+pub returns-else-named-eq1 : goal.returns-else-named-eq1
+unfolding number_shown bit_shown
+returns-else-named-eq1 c = rw (sym c.bad_lane.ensures ∙ c.if-bad_lane.false, c.in-Some.is, ne_eqb _ _ c.if-named-eq1.false)

@@ -9,4 +9,4 @@ shown e = record { answer = e.answer; bench = e.bench }
 
 pub returns : goal.returns
 unfolding preview_of
-returns c = ap shown c.arrive_once-after.ensures
+returns c = ap shown c.arrive_once-reply.ensures

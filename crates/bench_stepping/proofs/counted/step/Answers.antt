@@ -1,32 +1,29 @@
 use mathlib.Core.Path.{refl, ◌∙◌}
-use Rattle.bench_record.proofs.ByKind.{is_load, is_forward, is_back, is_clear, is_other}
 use Rattle.bench.specs.Steps.{slots_as, total_as}
 use Rattle.bench_moves.specs.declared.Motion.TheVariants.{Forward, Back, Clear}
 use Rattle.bench_moves.proofs.Sound.{all_step, none_moved}
 use Rattle.bench_stepping.proofs.counted.step.Goals as goal
 
-pub returns-in-1 : goal.returns-in-1
+pub returns-in-Ok-Load : goal.returns-in-Ok-Load
 unfolding total_as
-returns-in-1 c = rw (is_load c.in-1.is) (c.load-after.ensures, refl)
+returns-in-Ok-Load c = rw (rw c.in-Ok-Load.field-0-is at c.in-Ok-Load.ensures) (c.load.ensures, refl)
 
-pub returns-in-2 : goal.returns-in-2
+pub returns-in-Ok-Forward : goal.returns-in-Ok-Forward
 unfolding slots_as total_as
-returns-in-2 c =
-    rw (is_forward c.in-2.is) (all_step c.args.bench (Forward _) _ c.requires.0 _ _ c.step_lanes.ensures)
+returns-in-Ok-Forward c =
+    rw (rw c.in-Ok-Forward.field-0-is at c.in-Ok-Forward.ensures) (all_step c.args.bench (Forward _) _ c.requires.0 _ _ c.step_lanes.ensures)
 
-pub returns-in-3 : goal.returns-in-3
+pub returns-in-Ok-Back : goal.returns-in-Ok-Back
 unfolding slots_as total_as
-returns-in-3 c =
-    rw (is_back c.in-3.is) (all_step c.args.bench (Back _) _ c.requires.0 _ _ c.step_lanes-in-3.ensures)
+returns-in-Ok-Back c =
+    rw (rw c.in-Ok-Back.field-0-is at c.in-Ok-Back.ensures) (all_step c.args.bench (Back _) _ c.requires.0 _ _ c.step_lanes-in-Ok-Back.ensures)
 
-pub returns-in-4 : goal.returns-in-4
+pub returns-in-Ok-Clear : goal.returns-in-Ok-Clear
 unfolding slots_as total_as
-returns-in-4 c =
-    let e = all_step c.args.bench Clear _ c.requires.0 _ _ c.step_lanes-in-4.ensures in
-    rw (is_clear c.in-4.is) (e.0, e.1 ∙ none_moved _ _)
+returns-in-Ok-Clear c =
+    let e = all_step c.args.bench Clear _ c.requires.0 _ _ c.step_lanes-in-Ok-Clear.ensures in
+    rw (rw c.in-Ok-Clear.field-0-is at c.in-Ok-Clear.ensures) (e.0, e.1 ∙ none_moved _ _)
 
-pub returns-in_default : goal.returns-in_default
+pub returns-in-Err : goal.returns-in-Err
 unfolding slots_as total_as
-returns-in_default c =
-    let r = c.in_default.in_default-own.rest in
-    rw (is_other c.args.fields.kind r.0.0.0.1 r.0.0.1 r.0.1 r.1) (refl, refl)
+returns-in-Err c = rw c.in-Err.ensures.0 (refl, refl)
