@@ -4,7 +4,7 @@ ghost use Rattle.std.specs.Prelude.{◌≡◌, ℕ, ◌+◌, ◌-◌, ◌/◌, �
 ghost use Rattle.katan.specs.Clock.{fa as fa_formula, fb as fb_formula, registers};
 ghost use Rattle.katan.specs.Key.{key_number};
 ghost use Rattle.katan.specs.Variant.{row_of};
-ghost use Rattle.katan_origin.specs.Chains.{xor_traced, and_traced, given, block_bit, place_at, fa_at, fb_at};
+ghost use Rattle.katan_origin.specs.Chains.{xor_traced, and_traced, given, block_bit, place_at, clock_input, fa_at, fb_at};
 ghost use Rattle.katan_origin.specs.Origin.{last_clock};
 
 use katan::{ClockNumber, Key, RoundInput, RoundPosition, Row};
@@ -58,21 +58,12 @@ pub struct Run {
     ghost is_row: { row ≡ row_of variant },
 }
 
-// The position at which a clock's round starts: a clock number becomes a position only through the row's clocks a round.
-fn round_of(row: Row, clock: ClockNumber) -> RoundPosition
-    requires { (1 ≤ row.clocks) × (clock.0 ≤ last_clock) }
-    ensures { result.0 ≡ clock.0 / row.clocks }
-{
-    let clocks = row.clocks as usize;
-    RoundPosition((clock.0 / clocks) as u8)
-}
-
-// The clock at which the bit at place i entered its register.
-fn entered_at(clock: ClockNumber, i: usize) -> ClockNumber
-    requires { i < clock.0 }
-    ensures { result.0 ≡ clock.0 - 1 - i }
-{
-    ClockNumber(clock.0 - 1 - i)
+// A clock of a run, at most the last that is answered.
+#[derive(Clone, Copy)]
+pub struct Clock {
+    pub run: Run,
+    pub number: ClockNumber,
+    ghost early: { number.0 ≤ last_clock },
 }
 
 // A bit of the block by its number.
@@ -118,64 +109,86 @@ fn fb_of(
     y1 ^ (y2 ^ (y3 & y4) ^ (y5 & y6) ^ given(u.kb))
 }
 
-// The bit at place i of L1: one that entered at an earlier clock, fb of that clock, or a bit of the block, whose L1 begins at block
-// bit len2.
-#[cycle(fa_fb)]
-fn in_l1(run: Run, clock: ClockNumber, i: usize) -> Traced
-    requires { (clock.0 ≤ last_clock) × (i ≤ run.row.x1) }
-    ensures { result ≡ place_at (fb_at run.variant (key_number run.key) run.block) (registers run.row run.block).l1 clock.0 i }
-{
-    if i < clock.0 {
-        fb(run, entered_at(clock, i))
-    } else {
-        block_bit(run.block, run.row.len2 + (i - clock.0))
+impl Clock {
+    // IR and the key bits of its round: a clock number becomes a position only through the row's clocks a round.
+    fn input(self) -> RoundInput
+        ensures { result ≡ clock_input self.run.variant (key_number self.run.key) self.number.0 }
+    {
+        let clocks = self.run.row.clocks as usize;
+        let round = RoundPosition((self.number.0 / clocks) as u8);
+        katan_registers::round_input(self.run.variant, self.run.key, round)
     }
-}
 
-// The bit at place i of L2, which fa enters and which begins at block bit 0.
-#[cycle(fa_fb)]
-fn in_l2(run: Run, clock: ClockNumber, i: usize) -> Traced
-    requires { (clock.0 ≤ last_clock) × (i ≤ run.row.y1) }
-    ensures { result ≡ place_at (fa_at run.variant (key_number run.key) run.block) (registers run.row run.block).l2 clock.0 i }
-{
-    if i < clock.0 {
-        fa(run, entered_at(clock, i))
-    } else {
-        block_bit(run.block, i - clock.0)
+    // The clock at which the bit at place i entered its register.
+    fn entered(self, i: usize) -> Clock
+        requires { i < self.number.0 }
+        ensures { (result.run ≡ self.run) × (result.number.0 ≡ self.number.0 - 1 - i) }
+    {
+        Clock {
+            run: self.run,
+            number: ClockNumber(self.number.0 - 1 - i),
+        }
     }
-}
 
-// fa of a clock.
-#[cycle(fa_fb)]
-pub fn fa(run: Run, clock: ClockNumber) -> Traced
-    requires { clock.0 ≤ last_clock }
-    ensures { result ≡ fa_at run.variant (key_number run.key) run.block clock.0 }
-{
-    let row = run.row;
-    fa_of(
-        in_l1(run, clock, row.x1),
-        in_l1(run, clock, row.x2),
-        in_l1(run, clock, row.x3),
-        in_l1(run, clock, row.x4),
-        in_l1(run, clock, row.x5),
-        katan_registers::round_input(run.variant, run.key, round_of(row, clock)),
-    )
-}
+    // The bit at place i of L1: one that entered at an earlier clock, fb of that clock, or a bit of the block, whose L1 begins at
+    // block bit len2.
+    #[cycle(fa_fb)]
+    fn in_l1(self, i: usize) -> Traced
+        requires { i ≤ self.run.row.x1 }
+        ensures { result ≡ place_at (fb_at self.run.variant (key_number self.run.key) self.run.block) (registers self.run.row self.run.block).l1 self.number.0 i }
+    {
+        let t = self.number.0;
+        if i < t {
+            self.entered(i).fb()
+        } else {
+            block_bit(self.run.block, self.run.row.len2 + (i - t))
+        }
+    }
 
-// fb of a clock.
-#[cycle(fa_fb)]
-pub fn fb(run: Run, clock: ClockNumber) -> Traced
-    requires { clock.0 ≤ last_clock }
-    ensures { result ≡ fb_at run.variant (key_number run.key) run.block clock.0 }
-{
-    let row = run.row;
-    fb_of(
-        in_l2(run, clock, row.y1),
-        in_l2(run, clock, row.y2),
-        in_l2(run, clock, row.y3),
-        in_l2(run, clock, row.y4),
-        in_l2(run, clock, row.y5),
-        in_l2(run, clock, row.y6),
-        katan_registers::round_input(run.variant, run.key, round_of(row, clock)),
-    )
+    // The bit at place i of L2, which fa enters and which begins at block bit 0.
+    #[cycle(fa_fb)]
+    fn in_l2(self, i: usize) -> Traced
+        requires { i ≤ self.run.row.y1 }
+        ensures { result ≡ place_at (fa_at self.run.variant (key_number self.run.key) self.run.block) (registers self.run.row self.run.block).l2 self.number.0 i }
+    {
+        let t = self.number.0;
+        if i < t {
+            self.entered(i).fa()
+        } else {
+            block_bit(self.run.block, i - t)
+        }
+    }
+
+    // fa of the clock.
+    #[cycle(fa_fb)]
+    pub fn fa(self) -> Traced
+        ensures { result ≡ fa_at self.run.variant (key_number self.run.key) self.run.block self.number.0 }
+    {
+        let row = self.run.row;
+        fa_of(
+            self.in_l1(row.x1),
+            self.in_l1(row.x2),
+            self.in_l1(row.x3),
+            self.in_l1(row.x4),
+            self.in_l1(row.x5),
+            self.input(),
+        )
+    }
+
+    // fb of the clock.
+    #[cycle(fa_fb)]
+    pub fn fb(self) -> Traced
+        ensures { result ≡ fb_at self.run.variant (key_number self.run.key) self.run.block self.number.0 }
+    {
+        let row = self.run.row;
+        fb_of(
+            self.in_l2(row.y1),
+            self.in_l2(row.y2),
+            self.in_l2(row.y3),
+            self.in_l2(row.y4),
+            self.in_l2(row.y5),
+            self.in_l2(row.y6),
+            self.input(),
+        )
+    }
 }

@@ -1,12 +1,12 @@
 // Where did this bit come from: fa and fb of one of the first clocks, followed back to the block.
 #![tactic(auto)]
 
-ghost use Rattle.std.specs.Prelude.{◌≡◌, ◌≤◌};
+ghost use Rattle.std.specs.Prelude.{◌≡◌};
 ghost use Rattle.katan.specs.Checks.{outcome};
 ghost use Rattle.katan.specs.Key.{key_number};
-ghost use Rattle.katan_origin.specs.Origin.{last_clock, origin_of, origin_answer};
+ghost use Rattle.katan_origin.specs.Origin.{origin_of, origin_answer};
 
-use crate::chains::{Run, fa, fb};
+use crate::chains::{Clock, Run};
 use katan::{ClockNumber, KEY_BYTES, Refusal};
 
 mod chains;
@@ -23,12 +23,11 @@ pub struct ClockBits {
 const LAST_CLOCK: usize = 23;
 
 // Both bits of a clock, each by its chain.
-fn both_bits(run: Run, clock: ClockNumber) -> ClockBits
-    requires { clock.0 ≤ last_clock }
-    ensures { result ≡ origin_of run.variant (key_number run.key) run.block clock.0 }
+fn both_bits(clock: Clock) -> ClockBits
+    ensures { result ≡ origin_of clock.run.variant (key_number clock.run.key) clock.run.block clock.number.0 }
 {
-    let a = fa(run, clock);
-    let b = fb(run, clock);
+    let a = clock.fa();
+    let b = clock.fb();
     ClockBits {
         fa: a.bit,
         fb: b.bit,
@@ -56,5 +55,5 @@ pub fn origin(variant: u8, key: &[u8], block: u64, clock: ClockNumber) -> Result
         key: katan_numbers::key_of(key),
         block,
     };
-    Ok(both_bits(run, clock))
+    Ok(both_bits(Clock { run, number: clock }))
 }

@@ -8,8 +8,9 @@ use Rattle.katan_origin.proofs.both_bits.Goals as goal
 
 pub overflow_add-result : goal.overflow_add-result
 overflow_add-result c =
-    let s = c.args.run in
-    record { fits = rw (c.fa-a.ensures, c.fb-b.ensures) (room_for_both s.variant (key_number s.key) s.block c.args.clock.0 c.requires) }
+    let clock = c.args.clock in
+    let s = clock.run in
+    record { fits = rw (c.fa-a.ensures, c.fb-b.ensures) (room_for_both s.variant (key_number s.key) s.block clock.number.0 clock.early) }
 
 abbrev together : Traced → Traced → ClockBits
 together a b = record { fa = a.bit; fb = b.bit; looked_up = a.count + b.count }
