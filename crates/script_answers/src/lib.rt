@@ -77,15 +77,12 @@ pub fn reading_line(variant: u8, lane: u8, answer: Result<Reading, Refusal>) -> 
     ensures { result ≡ printed_as (answer_line variant lane (reading_answer answer)) }
 {
     match answer {
-        Ok(reading) => filled(
-            b"(at % % *)\n",
-            &[
-                u64::from(lane),
-                u64::from(reading.position.0),
-                reading.registers,
-            ],
-            script_form::block_digits(variant),
-        ),
+        Ok(reading) => {
+            let position = u64::from(reading.position.0);
+            let digits = script_form::block_digits(variant);
+            let values = [u64::from(lane), position, reading.registers];
+            filled(b"(at % % *)\n", &values, digits)
+        }
         Err(reason) => refused_line(reason),
     }
 }

@@ -6,11 +6,11 @@ use Rattle.script_answers.proofs.Lines.{at_fits}
 use Rattle.script_answers.proofs.reading_line.Goals as goal
 
 pub filled-requires : goal.filled-requires
-filled-requires c = at_fits c.from.result c.from-in-Ok.result c.block_digits.result _ (subst⁻¹ (◌≤ 16) c.block_digits.ensures (digits_fit _))
+filled-requires c = at_fits c.from.result c.from-position.result c.block_digits-digits.result _ (subst⁻¹ (◌≤ 16) c.block_digits-digits.ensures (digits_fit _))
 
 pub returns-in-Ok : goal.returns-in-Ok
 unfolding answer_line
-returns-in-Ok c = rw (c.in-Ok.is, ← c.from.ensures, ← c.from-in-Ok.ensures, ← c.block_digits.ensures) c.filled.ensures
+returns-in-Ok c = rw (c.in-Ok.is, ← c.from.ensures, ← c.from-position.ensures, ← c.block_digits-digits.ensures) c.filled.ensures
 
 pub returns-in-Err : goal.returns-in-Err
 unfolding answer_line
