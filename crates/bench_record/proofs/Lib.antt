@@ -1,4 +1,3 @@
 pub mod Parts
 pub mod Same
-pub mod ByKind
 pub mod Codec

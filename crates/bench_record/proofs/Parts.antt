@@ -1,12 +1,15 @@
 -- The bytes of a record, and its parts that are numbers: how large they are, and of which byte each bit is.
 -- Assumes nothing.
 use mathlib.Core.Path.{◌≡◌, refl, sym, ap, ◌∙◌}
-use mathlib.Core.List.{List, [], ◌∷◌}
-use Prim.Native.Nat.{ℕ, zero, suc, ◌+◌, ◌*◌, ◌^◌, ◌<◌, ◌≤◌}
+use mathlib.Core.List.{List, [], ◌∷◌, ◌++◌}
+use mathlib.Core.Bool.{Bool, true, false}
+use lib.Dec.{ltb}
+use borrow.Author.Tests.{ltb-true, ltb-false}
+use Prim.Native.Nat.{ℕ, zero, suc, min, ◌-◌, ◌+◌, ◌*◌, ◌^◌, ◌<◌, ◌≤◌}
 use native.Mathlib.Nat.{min-le_left}
 use native.Mathlib.Omega.{arith}
-use lib.ListN.{length, get_or, take, drop, length-take}
-use lib.Seq.{take_all, get_or-take, get_or-drop}
+use lib.ListN.{replicate, get_or-append, get_or-eq_default, length-append, length-drop, get_or-replicate, length, get_or, take, drop, length-take}
+use lib.Seq.{get_or-append_right, take_all, get_or-take, get_or-drop}
 use Rattle.katan.specs.Bit.{bit, number_in, AreBytes}
 use Rattle.katan.proofs.Bytes.{number_bit}
 use Rattle.katan.proofs.Fill.{full}
@@ -19,6 +22,34 @@ use Rattle.bench_record.specs.Codec.{record_in}
 pub whole_record : (s : List ℕ) → length s ≡ record_length → record_in s ≡ s
 unfolding record_in
 whole_record s e = sym (full (λ (i : ℕ). get_or s i 0) record_length s e (λ i q. refl))
+
+-- the record that a list starts with is the list, as far as it goes, and zeros after it
+module _ (s : List ℕ) (n : ℕ) (e : n ≡ min (length s) record_length) where
+  abbrev with_zeros : List ℕ
+  with_zeros = take n s ++ drop n (replicate record_length 0)
+
+  at_place : (j : ℕ) → j < record_length → get_or with_zeros j 0 ≡ get_or s j 0
+  at_place j q = go (ltb j n) refl
+    where
+      len : length (take n s) ≡ n
+      len = simp length-take (omega arith)
+
+      go : (b : Bool) → ltb j n ≡ b → get_or with_zeros j 0 ≡ get_or s j 0
+      go true f =
+          let lt = ltb-true j n f in
+          get_or-append (take n s) (drop n (replicate record_length 0)) 0 j (omega (arith, len)) ∙ get_or-take n s j 0 lt
+      go false f =
+          let le = ltb-false j n f in
+          get_or-append_right (take n s) (drop n (replicate record_length 0)) j 0 (omega (arith, len))
+          ∙ get_or-drop n (replicate record_length 0) (j - length (take n s)) 0
+          ∙ get_or-replicate record_length (n + (j - length (take n s))) 0 0 (omega (arith, len))
+          ∙ sym (get_or-eq_default s 0 {n = j} (omega arith))
+
+pub record_or_zeros : (s : List ℕ) → take (min (length s) record_length) s ++ drop (min (length s) record_length) (replicate record_length 0) ≡ record_in s
+unfolding record_in
+record_or_zeros s =
+    let n = min (length s) record_length in
+    full (λ (j : ℕ). get_or s j 0) record_length (take n s ++ drop n (replicate record_length 0)) (simp (length-append, length-take, length-drop) (omega arith)) (at_place s n refl)
 
 pub take-bytes : (n : ℕ) (xs : List ℕ) → AreBytes xs → AreBytes (take n xs)
 take-bytes zero xs h j = omega arith

@@ -5,13 +5,6 @@ ghost use Rattle.std.specs.Prelude.{◌≡◌, take, drop};
 pub fn bytes_in(bytes: &[u8], from: usize, n: usize) -> &[u8]
     ensures { result.now ≡ take n (drop from bytes.now) }
 {
-    let len = bytes.len();
-    if len <= from {
-        return &bytes[len..];
-    }
-    if len - from <= n {
-        return &bytes[from..];
-    }
-    let end = from + n;
-    &bytes[from..end]
+    let rest = &bytes[from.min(bytes.len())..];
+    &rest[..n.min(rest.len())]
 }

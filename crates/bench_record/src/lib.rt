@@ -93,12 +93,9 @@ pub struct Record {
 pub fn record_in(bytes: &[u8]) -> [u8; LENGTH]
     ensures { result ≡ record_in bytes.now }
 {
-    let mut to = [0u8; LENGTH];
-    let mut i: usize = 0;
-    while i < LENGTH {
-        to[i] = byte_at(bytes, i);
-        i += 1;
-    }
+    let mut to = [0; LENGTH];
+    let n = bytes.len().min(LENGTH);
+    to[..n].copy_from_slice(&bytes[..n]);
     to
 }
 
@@ -110,30 +107,26 @@ fn word_in(bytes: &[u8], from: usize, to: usize) -> u64
     katan_numbers::word_of(bytes_in(bytes, from, to - from))
 }
 
-// The same bytes with a number written there.
-fn put_word(bytes: [u8; LENGTH], from: usize, to: usize, x: u64) -> [u8; LENGTH]
+// A number written into the bytes from a place on, up to another.
+fn put_word(bytes: &mut [u8; LENGTH], from: usize, to: usize, x: u64)
     requires { (from ≤ to) × (to ≤ record_length) }
-    ensures { result ≡ take from bytes ++ (bytes_of (to - from) x ++ drop to bytes) }
+    ensures { bytes.new ≡ take from bytes.old ++ (bytes_of (to - from) x ++ drop to bytes.old) }
 {
-    let mut after = bytes;
-    katan_numbers::put_number(x, &mut after[from..to]);
-    after
+    katan_numbers::put_number(x, &mut bytes[from..to]);
 }
 
 // The record that bytes say.
 pub fn decoded(sent: &[u8]) -> Record
     ensures { result ≡ decode sent.now }
 {
-    let number = word_in(sent, NUMBER_AT, MASK_AT) as u32;
-    let key = katan_numbers::key_of(bytes_in(sent, KEY_AT, katan::KEY_BYTES));
     Record {
         kind: byte_at(sent, KIND_AT),
         lane: byte_at(sent, LANE_AT),
         count: byte_at(sent, COUNT_AT),
         gap: byte_at(sent, GAP_AT),
-        number: number,
+        number: word_in(sent, NUMBER_AT, MASK_AT) as u32,
         mask: word_in(sent, MASK_AT, KEY_AT),
-        key: key,
+        key: katan_numbers::key_of(bytes_in(sent, KEY_AT, katan::KEY_BYTES)),
         block: word_in(sent, BLOCK_AT, REST_AT),
         rest: word_in(sent, REST_AT, LENGTH),
     }
@@ -143,16 +136,21 @@ pub fn decoded(sent: &[u8]) -> Record
 pub fn encoded(fields: Record) -> [u8; LENGTH]
     ensures { result ≡ encode fields }
 {
-    let key = fields.key;
-    let mut bytes = [0u8; LENGTH];
+    let mut bytes = [0; LENGTH];
     bytes[KIND_AT] = fields.kind;
     bytes[LANE_AT] = fields.lane;
     bytes[COUNT_AT] = fields.count;
     bytes[GAP_AT] = fields.gap;
-    bytes = put_word(bytes, NUMBER_AT, MASK_AT, fields.number as u64);
-    bytes = put_word(bytes, MASK_AT, KEY_AT, fields.mask);
-    bytes = put_word(bytes, KEY_AT, KEY_HIGH_AT, key.low);
-    bytes = put_word(bytes, KEY_HIGH_AT, BLOCK_AT, key.high as u64);
-    bytes = put_word(bytes, BLOCK_AT, REST_AT, fields.block);
-    put_word(bytes, REST_AT, LENGTH, fields.rest)
+    put_word(&mut bytes, NUMBER_AT, MASK_AT, u64::from(fields.number));
+    put_word(&mut bytes, MASK_AT, KEY_AT, fields.mask);
+    put_word(&mut bytes, KEY_AT, KEY_HIGH_AT, fields.key.low);
+    put_word(
+        &mut bytes,
+        KEY_HIGH_AT,
+        BLOCK_AT,
+        u64::from(fields.key.high),
+    );
+    put_word(&mut bytes, BLOCK_AT, REST_AT, fields.block);
+    put_word(&mut bytes, REST_AT, LENGTH, fields.rest);
+    bytes
 }

@@ -1,7 +1,7 @@
+use Rattle.std.proofs.Common.{rules}
 use Rattle.bench_record.proofs.Codec.{whole}
-use borrow.Author.Rules.{rules}
 use Rattle.bench_record.proofs.encoded.Goals as goal
 
 pub returns : goal.returns
 returns c =
-    rw (c.put_word.ensures, c.put_word-bytes-5.ensures, c.put_word-bytes-4.ensures, c.put_word-bytes-3.ensures, c.put_word-bytes-2.ensures, c.put_word-bytes.ensures) (whole c.args.fields (search rules))
+    rw (c.put_word-6.ensures, c.put_word-5.ensures, c.put_word-4.ensures, c.put_word-3.ensures, c.put_word-2.ensures, c.put_word.ensures, c.from.ensures, c.from-2.ensures) (whole c.args.fields (search rules))
