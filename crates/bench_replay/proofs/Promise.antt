@@ -1,5 +1,6 @@
 -- What a replay promises, where its list is run and where it is refused.
 -- Assumes nothing.
+use Rattle.std.specs.Prelude.{None}
 use mathlib.Core.Path.{◌≡◌, sym, ap, ap₂, ◌∙◌}
 use mathlib.Core.Bool.{true, false, not}
 use mathlib.Core.List.{List, [], ◌∷◌}
@@ -12,7 +13,7 @@ use Rattle.katan.specs.Sizes.{lane_count}
 use Rattle.bench.specs.declared.Bench.{Bench}
 use Rattle.bench.specs.declared.Link.{Link}
 use Rattle.bench.specs.Calls.{Call, state_after, answers_to}
-use Rattle.bench.specs.Bench.{empty_slot, fresh_bench, fresh_link, slot_view, State, fresh_state, bench_transition}
+use Rattle.bench.specs.Bench.{fresh_bench, fresh_link, lane_view, State, fresh_state, bench_transition}
 use Rattle.bench.specs.Model.{fresh_model, machine_view}
 use Rattle.bench.specs.Claim.{bench_after, bench_answers, model_answers, machine_after}
 use Rattle.bench.proofs.Follow.{fresh_follow, view_at}
@@ -37,7 +38,7 @@ module _ {A : Type 0} (v : ℕ) (bytes out : List ℕ) (r : Outcome A) where
 
 module _ (v : ℕ) (bytes out after : List ℕ) (answer : Outcome (Unit {0})) (b : Bench) where
   abbrev Lanes : List Call → Type 0
-  Lanes calls = (i : ℕ) → i < lane_count → slot_view (get_or b.slots i empty_slot) ≡ machine_view v (machine_after v calls i)
+  Lanes calls = (i : ℕ) → i < lane_count → lane_view (get_or b.slots i None) ≡ machine_view v (machine_after v calls i)
 
   abbrev pub Promised : Type 0
   Promised =
@@ -50,8 +51,8 @@ module _ (v : ℕ) (bytes out after : List ℕ) (answer : Outcome (Unit {0})) (b
   abbrev Kept : Outcome (List Call) → Type 0
   Kept o = (after ≡ lent_after (λ (calls : List Call). answers_bytes (model_answers v calls)) o out) × ((b ≡ (bench_after v (ran o)).bench) × Lanes (ran o))
 
-  same_lanes : {d : Bench} → b ≡ d → (i : ℕ) → slot_view (get_or b.slots i empty_slot) ≡ slot_view (get_or d.slots i empty_slot)
-  same_lanes s i = ap (λ (d : Bench). slot_view (get_or d.slots i empty_slot)) s
+  same_lanes : {d : Bench} → b ≡ d → (i : ℕ) → lane_view (get_or b.slots i None) ≡ lane_view (get_or d.slots i None)
+  same_lanes s i = ap (λ (d : Bench). lane_view (get_or d.slots i None)) s
 
   kept_run : (calls : List Call) → 1 ≤ v → v ≤ 6 → b ≡ (bench_after v calls).bench → after ≡ answers_bytes (bench_answers v calls) → Kept (value calls)
   kept_run calls least most s a =

@@ -1,5 +1,6 @@
 -- One turn of the loop that runs a list of calls.
 -- Assumes nothing.
+use Rattle.std.specs.Prelude.{Result}
 use mathlib.Core.Path.{◌≡◌, refl, sym, ap, ap₂, ◌∙◌}
 use mathlib.Core.List.{List, [], ◌∷◌, ◌++◌, map, append-nil, append_assoc}
 use Prim.Native.Nat.{ℕ, ◌+◌, ◌<◌, ◌≤◌}
@@ -10,7 +11,8 @@ use borrow.Author.Tests.{eq-eqb, ne_eqb}
 use Rattle.bench.specs.declared.Bench.{Bench}
 use Rattle.bench.specs.declared.Link.{Link}
 use Rattle.bench.specs.declared.ArrivalResult.{ArrivalResult}
-use Rattle.bench.specs.declared.ReadAnswer.{ReadAnswer}
+use Rattle.bench.specs.declared.Reading.{Reading}
+use Rattle.katan.specs.declared.Refusal.{Refusal}
 use Rattle.bench.specs.Calls.{Call, arrival, reading, Answer, state_after, answers_to}
 use Rattle.bench.specs.Bench.{reply_answer, reading_answer, effect_of, arrive_of, read_of, bench_transition}
 use Rattle.bench_replay.specs.Encoding.{head_length, call_number, call_size, first_call, starts_after, calls_in, answer_length, answer_bytes, answers_bytes}
@@ -61,7 +63,7 @@ module _ (b : Bench) (l : Link) where
   unfolding bench_transition
   arrival_step sent a f e = rw (f, ← e) (refl, refl)
 
-  pub reading_step : (i : ℕ) (r : ReadAnswer) {c : Call} → c ≡ reading i → reading_answer r ≡ read_of b i
+  pub reading_step : (i : ℕ) (r : Result Reading Refusal) {c : Call} → c ≡ reading i → reading_answer r ≡ read_of b i
       → (state_of b l ≡ (bench_transition (state_of b l) c).0) × (reading_answer r ≡ (bench_transition (state_of b l) c).1)
   unfolding bench_transition
   reading_step i r f e = rw f (refl, e)

@@ -1,5 +1,6 @@
 -- A number written over a part of a list, and an answer written field by field.
 -- Assumes nothing.
+use Rattle.std.specs.Prelude.{Result, Ok, Err}
 use mathlib.Core.Path.{◌≡◌, refl, sym, ap, ap₂, ◌∙◌}
 use mathlib.Core.List.{List, [], ◌∷◌, ◌++◌, append_assoc}
 use Prim.Native.Nat.{ℕ, ◌+◌, ◌-◌, ◌<◌, ◌≤◌}
@@ -11,10 +12,8 @@ use native.Mathlib.Nat.{add_assoc}
 use Rattle.katan.specs.Checks.{number_of, refused}
 use Rattle.katan.specs.declared.Refusal.{Refusal}
 use Rattle.bench.specs.declared.Reply.{Reply}
-use Rattle.bench.specs.declared.Reply.TheVariants.{Done, Again, Refused}
+use Rattle.bench.specs.declared.Reply.TheVariants.{Done, Again}
 use Rattle.bench.specs.declared.Reading.{Reading}
-use Rattle.bench.specs.declared.ReadAnswer.{ReadAnswer}
-use Rattle.bench.specs.declared.ReadAnswer.TheVariants.{At, Refused as ReadRefused}
 use Rattle.bench.specs.Bench.{reply_answer, reading_answer}
 use Rattle.katan.specs.Bit.{bytes_of}
 use Rattle.katan.proofs.Numbers.{length-bytes}
@@ -105,22 +104,22 @@ pub refused_fields : {k n : ℕ} → k ≡ n → answer_fields 4 k 0 ≡ answer_
 unfolding answer_bytes
 refused_fields e = rw e
 
-module _ {a : Reply} where
-  pub done_fields : {n t : ℕ} → a ≡ Done n t → answer_fields 1 n t ≡ answer_bytes (reply_answer a)
+module _ {a : Result Reply Refusal} where
+  pub done_fields : {n t : ℕ} → a ≡ Ok (Done n t) → answer_fields 1 n t ≡ answer_bytes (reply_answer a)
   unfolding answer_bytes
   done_fields e = rw e
 
-  pub again_fields : {n t : ℕ} → a ≡ Again n t → answer_fields 2 n t ≡ answer_bytes (reply_answer a)
+  pub again_fields : {n t : ℕ} → a ≡ Ok (Again n t) → answer_fields 2 n t ≡ answer_bytes (reply_answer a)
   unfolding answer_bytes
   again_fields e = rw e
 
-  pub refused_reply : {r : Refusal} {bytes : List ℕ} → bytes ≡ answer_bytes (refused (number_of r)) → a ≡ Refused r → bytes ≡ answer_bytes (reply_answer a)
+  pub refused_reply : {r : Refusal} {bytes : List ℕ} → bytes ≡ answer_bytes (refused (number_of r)) → a ≡ Err r → bytes ≡ answer_bytes (reply_answer a)
   refused_reply f e = rw e f
 
-module _ {a : ReadAnswer} where
-  pub at_fields : {r : Reading} → a ≡ At r → answer_fields 3 r.position.0 r.registers ≡ answer_bytes (reading_answer a)
+module _ {a : Result Reading Refusal} where
+  pub at_fields : {r : Reading} → a ≡ Ok r → answer_fields 3 r.position.0 r.registers ≡ answer_bytes (reading_answer a)
   unfolding answer_bytes
   at_fields e = rw e
 
-  pub refused_read : {r : Refusal} {bytes : List ℕ} → bytes ≡ answer_bytes (refused (number_of r)) → a ≡ ReadRefused r → bytes ≡ answer_bytes (reading_answer a)
+  pub refused_read : {r : Refusal} {bytes : List ℕ} → bytes ≡ answer_bytes (refused (number_of r)) → a ≡ Err r → bytes ≡ answer_bytes (reading_answer a)
   refused_read f e = rw e f

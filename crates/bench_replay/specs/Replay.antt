@@ -1,17 +1,11 @@
 -- What a replay answers, what its output holds afterwards, and the calls that it has run.
 -- Assumes nothing.
 use Rattle.std.specs.Prelude.{ℕ, not, List, [], ◌∷◌, length}
-use Rattle.katan.specs.Checks.{number_of, Outcome, value, refused, Check, checked, variant_check}
+use Rattle.katan.specs.Checks.{Outcome, value, refused, Check, checked, variant_check}
 use Rattle.katan.specs.Lent.{lent_after}
 use Rattle.bench.specs.Calls.{Call}
 use Rattle.bench.specs.Claim.{model_answers}
-use Rattle.bench_replay.specs.declared.ReplayAnswer.{ReplayAnswer}
-use Rattle.bench_replay.specs.declared.ReplayAnswer.TheVariants.{Done, Refused}
 use Rattle.bench_replay.specs.Encoding.{calls_in, answers_bytes, fits}
-
-abbrev pub replay_outcome : ReplayAnswer → Outcome (Unit {0})
-replay_outcome Done = value tt
-replay_outcome (Refused r) = refused (number_of r)
 
 -- 2: the bytes are not whole calls, or the output has not 13 for each
 abbrev pub list_check : (bytes out : List ℕ) → Check

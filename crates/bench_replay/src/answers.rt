@@ -6,7 +6,7 @@ ghost use Rattle.bench_replay.specs.Encoding.{answer_length, answer_bytes};
 ghost use Rattle.bench_replay.specs.inner.Steps.{field_bytes, overwritten};
 
 use crate::{AGAIN, ANSWER_LENGTH, AT, DONE, REFUSED};
-use bench::{ReadAnswer, Reply};
+use bench::{Reading, Reply};
 use katan::Refusal;
 
 // The kind, the number of 4 bytes and the number of 8.
@@ -22,39 +22,39 @@ fn refused_fields(refusal: Refusal) -> Fields
 {
     Fields {
         kind: REFUSED,
-        first: katan_variants::refusal_number(refusal) as u32,
+        first: u32::from(u8::from(refusal)),
         second: 0,
     }
 }
 
-pub fn reply_fields(reply: Reply) -> Fields
+pub fn reply_fields(reply: Result<Reply, Refusal>) -> Fields
     ensures { field_bytes result ≡ answer_bytes (reply_answer reply) }
 {
     match reply {
-        Reply::Done { number, total } => Fields {
+        Ok(Reply::Done { number, total }) => Fields {
             kind: DONE,
             first: number,
-            second: total as u64,
+            second: u64::from(total),
         },
-        Reply::Again { number, total } => Fields {
+        Ok(Reply::Again { number, total }) => Fields {
             kind: AGAIN,
             first: number,
-            second: total as u64,
+            second: u64::from(total),
         },
-        Reply::Refused(r) => refused_fields(r),
+        Err(refusal) => refused_fields(refusal),
     }
 }
 
-pub fn read_fields(answer: ReadAnswer) -> Fields
+pub fn read_fields(answer: Result<Reading, Refusal>) -> Fields
     ensures { field_bytes result ≡ answer_bytes (reading_answer answer) }
 {
     match answer {
-        ReadAnswer::At(reading) => Fields {
+        Ok(reading) => Fields {
             kind: AT,
-            first: reading.position.0 as u32,
+            first: u32::from(reading.position.0),
             second: reading.registers,
         },
-        ReadAnswer::Refused(r) => refused_fields(r),
+        Err(refusal) => refused_fields(refusal),
     }
 }
 
@@ -63,10 +63,7 @@ pub fn write(answer: Fields, at: usize, out: &mut [u8])
     requires { at + answer_length ≤ length out.old }
     ensures { out.new ≡ overwritten out.old at (field_bytes answer) }
 {
-    let first = at + 1;
-    let second = at + 5;
-    let end = at + ANSWER_LENGTH;
     out[at] = answer.kind;
-    katan_numbers::put_number(answer.first as u64, &mut out[first..second]);
-    katan_numbers::put_number(answer.second, &mut out[second..end]);
+    katan_numbers::put_number(u64::from(answer.first), &mut out[at + 1..at + 5]);
+    katan_numbers::put_number(answer.second, &mut out[at + 5..at + ANSWER_LENGTH]);
 }

@@ -10,8 +10,7 @@ pub fn number_of(call: &[u8]) -> usize
     requires { head_length ≤ length call.now }
     ensures { result ≡ call_number call.now }
 {
-    let number = &call[1..HEAD_LENGTH];
-    katan_numbers::word_of(number) as usize
+    katan_numbers::word_of(&call[1..HEAD_LENGTH]) as usize
 }
 
 // The bytes that the first call takes; 0 where no whole call comes first.

@@ -1,12 +1,13 @@
 // A whole list of calls, run on a fresh bench and link.
 #![tactic(auto)]
 
-ghost use Rattle.std.specs.Prelude.{◌≡◌, ℕ, ◌<◌, get_or};
+ghost use Rattle.std.specs.Prelude.{◌≡◌, ℕ, ◌<◌, None, get_or};
+ghost use Rattle.katan.specs.Checks.{outcome};
 ghost use Rattle.katan.specs.Sizes.{lane_count};
-ghost use Rattle.bench.specs.Bench.{empty_slot, slot_view};
+ghost use Rattle.bench.specs.Bench.{lane_view};
 ghost use Rattle.bench.specs.Model.{machine_view};
 ghost use Rattle.bench.specs.Claim.{bench_after, machine_after};
-ghost use Rattle.bench_replay.specs.Replay.{replay_outcome, replay_answer, replay_output, calls_run};
+ghost use Rattle.bench_replay.specs.Replay.{replay_answer, replay_output, calls_run};
 
 use crate::calls::fits;
 use crate::run::run;
@@ -37,47 +38,37 @@ pub const AT: u8 = 3;
 
 pub const REFUSED: u8 = 4;
 
-// What a replay answers: that every call is run, or the first fault found.
-#[derive(Clone, Copy)]
-pub enum ReplayAnswer {
-    Done,
-    Refused(Refusal),
-}
-
-// The bench as the list left it, and the answer.
+// The bench as the list left it, and the answer: nothing more where every call is run, or the first fault found.
 #[derive(Clone, Copy)]
 pub struct Replayed {
     pub bench: Bench,
-    pub answer: ReplayAnswer,
+    pub answer: Result<(), Refusal>,
 }
 
 // Each call's answer is written after the one before, and the output has room for exactly these. A refused list runs no call: the output is
 // left as it was, and the bench given back is a fresh one.
 pub fn replay(variant: u8, calls: &[u8], out: &mut [u8]) -> Replayed
-    ensures answer_value { replay_outcome result.answer ≡ replay_answer variant calls.now out.old }
+    ensures answer_value { outcome result.answer ≡ replay_answer variant calls.now out.old }
     ensures out_after { out.new ≡ replay_output variant calls.now out.old }
     ensures bench_value { result.bench ≡ (bench_after variant (calls_run variant calls.now out.old)).bench }
     ensures by_index { (i : ℕ) → i < lane_count
-        → slot_view (get_or result.bench.slots i empty_slot) ≡ machine_view variant (machine_after variant (calls_run variant calls.now out.old) i) }
+        → lane_view (get_or result.bench.slots i None) ≡ machine_view variant (machine_after variant (calls_run variant calls.now out.old) i) }
 {
     let bench = bench_fresh::fresh_bench(variant);
-    let bad = katan_variants::bad_variant(variant);
-    let whole = fits(calls, out.len());
-    if bad {
+    if katan_variants::bad_variant(variant) {
         return Replayed {
-            bench: bench,
-            answer: ReplayAnswer::Refused(Refusal::BadVariant),
+            bench,
+            answer: Err(Refusal::BadVariant),
         };
     }
-    if !whole {
+    if !fits(calls, out.len()) {
         return Replayed {
-            bench: bench,
-            answer: ReplayAnswer::Refused(Refusal::BadLength),
+            bench,
+            answer: Err(Refusal::BadLength),
         };
     }
-    let after = run(bench, bench_fresh::fresh_link(), calls, out);
     Replayed {
-        bench: after,
-        answer: ReplayAnswer::Done,
+        bench: run(bench, bench_fresh::fresh_link(), calls, out),
+        answer: Ok(()),
     }
 }

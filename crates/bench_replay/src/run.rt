@@ -21,13 +21,10 @@ pub struct AfterCall {
 fn arrived(after: ArrivalResult) -> AfterCall
     ensures { (result.bench ≡ after.bench) × (result.link ≡ after.link) × (field_bytes result.answer ≡ answer_bytes (reply_answer after.reply)) }
 {
-    let bench = after.bench;
-    let link = after.link;
-    let reply = after.reply;
     AfterCall {
-        bench: bench,
-        link: link,
-        answer: reply_fields(reply),
+        bench: after.bench,
+        link: after.link,
+        answer: reply_fields(after.reply),
     }
 }
 
@@ -45,8 +42,8 @@ fn transition(bench: Bench, link: Link, call: &[u8]) -> AfterCall
         return arrived(bench_stepping::arrive_once(bench, link, sent));
     }
     AfterCall {
-        bench: bench,
-        link: link,
+        bench,
+        link,
         answer: read_fields(bench_stepping::read(bench, number)),
     }
 }

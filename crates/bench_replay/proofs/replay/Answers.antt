@@ -5,29 +5,29 @@ use Rattle.katan.proofs.Variants.{is_variant}
 use Rattle.bench_replay.proofs.Promise.{promise_1, promise_2, promise_run}
 use Rattle.bench_replay.proofs.replay.Goals as goal
 
-pub returns-then-bad : goal.returns-then-bad
-returns-then-bad c =
+pub returns-then-bad_variant : goal.returns-then-bad_variant
+returns-then-bad_variant c =
     let a = c.args in
-    let both = promise_1 a.variant a.calls.now a.out.now _ _ _ (sym c.bad_variant-bad.ensures ∙ c.if-bad.true) refl c.fresh_bench-bench.ensures refl in
+    let both = promise_1 a.variant a.calls.now a.out.now _ _ _ (sym c.bad_variant.ensures ∙ c.if-bad_variant.true) refl c.fresh_bench-bench.ensures refl in
     record { answer_value = both.0; out_after = both.1.0; bench_value = both.1.1.0; by_index = both.1.1.1 }
 
-pub returns-then-not-whole : goal.returns-then-not-whole
-returns-then-not-whole c =
+pub returns-then-not-fits : goal.returns-then-not-fits
+returns-then-not-fits c =
     let a = c.args in
-    let known : c.bad_variant-bad.result ≡ false = search rules in
-    let sound = sym c.bad_variant-bad.ensures ∙ known in
-    let both = promise_2 a.variant a.calls.now a.out.now _ _ _ sound (sym c.fits-whole.ensures ∙ c.if-not-whole.true) refl c.fresh_bench-bench.ensures refl in
+    let known : c.bad_variant.result ≡ false = search rules in
+    let sound = sym c.bad_variant.ensures ∙ known in
+    let both = promise_2 a.variant a.calls.now a.out.now _ _ _ sound (sym c.fits.ensures ∙ c.if-not-fits.true) refl c.fresh_bench-bench.ensures refl in
     record { answer_value = both.0; out_after = both.1.0; bench_value = both.1.1.0; by_index = both.1.1.1 }
 
-pub run-after-requires : goal.run-after-requires
-run-after-requires c = sym c.fits-whole.ensures ∙ c.if-not-whole.false
+pub run-requires : goal.run-requires
+run-requires c = sym c.fits.ensures ∙ c.if-not-fits.false
 
 pub returns : goal.returns
 returns c =
     let a = c.args in
-    let run = c.run-after in
-    let sound = sym c.bad_variant-bad.ensures ∙ c.if-bad.false in
-    let whole = sym c.fits-whole.ensures ∙ c.if-not-whole.false in
+    let run = c.run in
+    let sound = sym c.bad_variant.ensures ∙ c.if-bad_variant.false in
+    let whole = sym c.fits.ensures ∙ c.if-not-fits.false in
     let both = promise_run a.variant a.calls.now a.out.now _ _ run.result _ _ sound (is_variant a.variant sound) whole refl
     c.fresh_bench-bench.ensures c.fresh_link.ensures run.ensures.0 run.ensures.1 in
     record { answer_value = both.0; out_after = both.1.0; bench_value = both.1.1.0; by_index = both.1.1.1 }

@@ -11,14 +11,14 @@ slice_bounds-put_number-end c = simp length-set (omega arith)
 
 pub slice_bounds-put_number-end-2 : goal.slice_bounds-put_number-end-2
 slice_bounds-put_number-end-2 c =
-    let e = first_put c.args.out.now c.args.at c.args.answer.kind c.args.answer.first 0 c.requires c.put_number.new.out [] c.put_number.ensures in
+    let e = first_put c.args.out.now c.args.at c.args.answer.kind c.args.answer.first 0 c.requires c.put_number.new.out [] (rw c.from.ensures at c.put_number.ensures) in
     omega (arith, e)
 
 pub shape_of-out : goal.shape_of-out
 shape_of-out c =
-    let e = fields_put c.args.out.now c.args.at c.args.answer.kind c.args.answer.first c.args.answer.second c.requires c.put_number.new.out c.put_number-2.new.out c.put_number.ensures c.put_number-2.ensures in
+    let e = fields_put c.args.out.now c.args.at c.args.answer.kind c.args.answer.first c.args.answer.second c.requires c.put_number.new.out c.put_number-2.new.out (rw c.from.ensures at c.put_number.ensures) c.put_number-2.ensures in
     ap length e ∙ length_over c.args.out.now c.args.at _ answer_length (fields_length _ _ _) c.requires
 
 pub returns : goal.returns
 returns c =
-    fields_put c.args.out.now c.args.at c.args.answer.kind c.args.answer.first c.args.answer.second c.requires c.put_number.new.out c.put_number-2.new.out c.put_number.ensures c.put_number-2.ensures
+    fields_put c.args.out.now c.args.at c.args.answer.kind c.args.answer.first c.args.answer.second c.requires c.put_number.new.out c.put_number-2.new.out (rw c.from.ensures at c.put_number.ensures) c.put_number-2.ensures
