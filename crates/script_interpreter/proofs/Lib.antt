@@ -1,3 +1,2 @@
-mod Results
 pub mod Taken
 pub mod Same

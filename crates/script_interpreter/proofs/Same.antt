@@ -3,6 +3,7 @@
 use Prim.Native.Nat.{ℕ, ◌≤◌}
 use mathlib.Core.Path.{◌≡◌, refl, sym, ap, ap₂, ◌∙◌}
 use mathlib.Core.Bool.{Bool, true, false}
+use Rattle.std.specs.Prelude.{Option, Some, None}
 use mathlib.Core.List.{List, [], ◌∷◌, ◌++◌}
 use native.Mathlib.Omega.{arith}
 use Rattle.katan.specs.Bit.{pick}
@@ -20,7 +21,8 @@ use Rattle.script_command.specs.declared.Command.TheVariants.{Bench as BenchLine
 use Rattle.script_command.specs.Answer.{command_answer}
 use Rattle.script_command.specs.Reads.{Open, Stands}
 use Rattle.script_interpreter.specs.Interpreter.{opens_as, calls, obeys, takes_as, on_line, script_output}
-use Rattle.script_interpreter.specs.Session.{no_bench, open_bench, variant_of, state_of, session_transition, session_line, Machines, none, running, fresh, machines_variant, machines_transition}
+use Rattle.script_interpreter.specs.Session.{no_bench, open_bench, variant_in, variant_of, state_of, session_transition, session_line, Machines, none, running, fresh, machines_variant, machines_transition}
+use Rattle.script_interpreter.specs.declared.OpenBench.{OpenBench}
 use Rattle.script_interpreter.specs.declared.Session.{Session}
 use Rattle.script_interpreter.proofs.Taken.{may_stand}
 
@@ -42,31 +44,34 @@ kept_variant x (arrival s) = go (decision (bench_view x.bench x.link) s)
     go (refused k) = refl
 kept_variant x (reading i) = refl
 
--- ---- a session and machines that have had the same calls
+-- ---- an open bench and machines that have had the same calls
 
-record Called (x : Session) (v : ℕ) (m : Model) : Type 0 where
-  is_open : x.is_open ≡ true
-  variant : x.bench.variant ≡ v
+record Called (o : OpenBench) (v : ℕ) (m : Model) : Type 0 where
+  variant : o.bench.variant ≡ v
   least : 1 ≤ v
   most : v ≤ 6
   had : List Call
-  state : state_of x ≡ state_after bench_transition (fresh_state v) had
+  state : state_of o ≡ state_after bench_transition (fresh_state v) had
   model : m ≡ state_after (model_transition v) fresh_model had
 
-abbrev Same : Session → Machines → Type 0
-Same x none = x.is_open ≡ false
-Same x (running v m) = Called x v m
+abbrev Same : Option OpenBench → Machines → Type 0
+Same None none = Unit {0}
+Same None (running v m) = ⊥
+Same (Some o) none = ⊥
+Same (Some o) (running v m) = Called o v m
 
-same_variant : (x : Session) (y : Machines) → Same x y → variant_of x ≡ machines_variant y
-same_variant x none s = rw s
-same_variant x (running v m) s = rw s.is_open s.variant
+same_variant : (o : Option OpenBench) (y : Machines) → Same o y → variant_in o ≡ machines_variant y
+same_variant None none s = refl
+same_variant None (running v m) s = absurd s
+same_variant (Some o) none s = absurd s
+same_variant (Some o) (running v m) s = s.variant
 
 record SameLine (a : Session × List ℕ) (b : Machines × List ℕ) : Type 0 where
   text : a.1 ≡ b.1
-  next : Same a.0 b.0
+  next : Same a.0.bench b.0
 
-module _ (x : Session) (v : ℕ) (m : Model) (s : Called x v m) (c : Call) where
-  same_answer : (bench_transition (state_of x) c).1 ≡ (model_transition v m c).1
+module _ (o : OpenBench) (v : ℕ) (m : Model) (s : Called o v m) (c : Call) where
+  same_answer : (bench_transition (state_of o) c).1 ≡ (model_transition v m c).1
   unfolding state_after answers_to
   same_answer =
       let cs = s.had in
@@ -80,12 +85,14 @@ module _ (x : Session) (v : ℕ) (m : Model) (s : Called x v m) (c : Call) where
       ∙ answers_more (model_transition v) fresh_model cs (c ∷ [])
       ∙ ap (λ (l : List Answer). l ++ ((model_transition v (state_after (model_transition v) fresh_model cs) c).1 ∷ [])) (sym now)))
 
-  same_next : Called (session_transition x c).0 v (model_transition v m c).0
+  abbrev after : OpenBench
+  after = let t = (bench_transition (state_of o) c).0 in record { bench = t.bench; link = t.link }
+
+  same_next : Called after v (model_transition v m c).0
   unfolding state_after
   same_next =
       record {
-        is_open = s.is_open;
-        variant = kept_variant (state_of x) c ∙ s.variant;
+        variant = kept_variant (state_of o) c ∙ s.variant;
         least = s.least;
         most = s.most;
         had = s.had ++ (c ∷ []);
@@ -93,9 +100,8 @@ module _ (x : Session) (v : ℕ) (m : Model) (s : Called x v m) (c : Call) where
         model = ap (λ (t : Model). (model_transition v t c).0) s.model ∙ sym (state_more (model_transition v) fresh_model s.had (c ∷ []));
       }
 
-  same_call : (lane : ℕ) → SameLine (calls variant_of open_bench session_transition x lane c) (calls machines_variant fresh machines_transition (running v m) lane c)
-  same_call lane =
-      record { text = ap₂ (λ (w : ℕ) (a : Answer). answer_line w lane a) (same_variant x (running v m) s) same_answer; next = same_next }
+  same_call : (lane : ℕ) → SameLine (calls variant_of open_bench session_transition (record { bench = Some o }) lane c) (calls machines_variant fresh machines_transition (running v m) lane c)
+  same_call lane = record { text = ap₂ (λ (w : ℕ) (a : Answer). answer_line w lane a) s.variant same_answer; next = same_next }
 
 -- ---- a line
 
@@ -109,22 +115,25 @@ opens_variant v u e = is_variant v (go (variant_check v).fault e)
     go true e = let z : ◌≡◌ {A = ℕ} 0 1 = cc in absurd (omega arith)
     go false e = refl
 
-module _ (x : Session) (y : Machines) (s : Same x y) where
+module _ (x : Session) (y : Machines) (s : Same x.bench y) where
   same_opening : (v : ℕ) (o : Outcome (Unit {0})) → checked (variant_check v ∷ []) (value tt) ≡ o
       → SameLine (opens_as variant_of open_bench session_transition x v o) (opens_as machines_variant fresh machines_transition y v o)
   unfolding fresh_state state_after
   same_opening v (value u) e =
       let w = opens_variant v u e in
-      record { text = refl; next = record { is_open = refl; variant = refl; least = w.0; most = w.1; had = []; state = refl; model = refl } }
+      record { text = refl; next = record { variant = refl; least = w.0; most = w.1; had = []; state = refl; model = refl } }
   same_opening v (refused k) e = record { text = refl; next = s }
 
   same_called : (lane : ℕ) (c : Call) → Open (machines_variant y)
       → SameLine (calls variant_of open_bench session_transition x lane c) (calls machines_variant fresh machines_transition y lane c)
-  same_called lane c o = go y s o
+  same_called lane c o = go x.bench y s o
     where
-      go : (z : Machines) → Same x z → Open (machines_variant z) → SameLine (calls variant_of open_bench session_transition x lane c) (calls machines_variant fresh machines_transition z lane c)
-      go none t p = absurd (omega (arith, p.0))
-      go (running v m) t p = same_call x v m t c lane
+      go : (q : Option OpenBench) (z : Machines) → Same q z → Open (machines_variant z)
+          → SameLine (calls variant_of open_bench session_transition (record { bench = q }) lane c) (calls machines_variant fresh machines_transition z lane c)
+      go None none t p = absurd (omega (arith, p.0))
+      go None (running v m) t p = absurd t
+      go (Some q) none t p = absurd t
+      go (Some q) (running v m) t p = same_call q v m t c lane
 
   same_command : (c : Command) → Stands (machines_variant y) c → SameLine (obeys variant_of open_bench session_transition x c) (obeys machines_variant fresh machines_transition y c)
   unfolding obeys
@@ -142,11 +151,11 @@ module _ (x : Session) (y : Machines) (s : Same x y) where
 
   same_line : (line : List ℕ) → SameLine (session_line x line) (machines_line y line)
   unfolding on_line
-  same_line line = rw (same_variant x y s) (same_answered line (command_answer (machines_variant y) line) refl)
+  same_line line = rw (same_variant x.bench y s) (same_answered line (command_answer (machines_variant y) line) refl)
 
 -- ---- every line
 
-same_lines : (lines : List (List ℕ)) (x : Session) (y : Machines) → Same x y
+same_lines : (lines : List (List ℕ)) (x : Session) (y : Machines) → Same x.bench y
     → script_output variant_of open_bench session_transition x lines ≡ script_output machines_variant fresh machines_transition y lines
 unfolding script_output
 same_lines [] x y s = refl
@@ -156,4 +165,4 @@ same_lines (line ∷ lines) x y s =
 
 -- from no bench on
 pub same_output : (lines : List (List ℕ)) → script_output variant_of open_bench session_transition no_bench lines ≡ script_output machines_variant fresh machines_transition none lines
-same_output lines = same_lines lines no_bench none refl
+same_output lines = same_lines lines no_bench none tt

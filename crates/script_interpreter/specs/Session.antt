@@ -1,13 +1,13 @@
 -- The interpreter over the bench and link of the code, and over document 01's machines.
 -- Assumes nothing.
-use Rattle.std.specs.Prelude.{ℕ, true, false, List}
-use Rattle.katan.specs.Bit.{pick}
+use Rattle.std.specs.Prelude.{ℕ, List, Option, Some, None}
 use Rattle.katan.specs.Checks.{refused}
 use Rattle.bench.specs.Calls.{Call, Answer}
 use Rattle.bench.specs.Model.{Model, fresh_model, model_transition}
 use Rattle.bench.specs.Bench.{State, fresh_bench, fresh_link, bench_transition}
 use Rattle.script_answers.specs.Printed.{printed_as}
 use Rattle.script_interpreter.specs.Interpreter.{on_line}
+use Rattle.script_interpreter.specs.declared.OpenBench.{OpenBench}
 use Rattle.script_interpreter.specs.declared.Session.{Session}
 use Rattle.script_interpreter.specs.declared.LineResult.{LineResult}
 
@@ -15,22 +15,31 @@ use Rattle.script_interpreter.specs.declared.LineResult.{LineResult}
 
 -- before any accepted bench line
 abbrev pub no_bench : Session
-no_bench = record { is_open = false; bench = fresh_bench 0; link = fresh_link }
+no_bench = record { bench = None }
+
+abbrev pub opened : State → Session
+opened t = record { bench = Some (record { bench = t.bench; link = t.link }) }
 
 abbrev pub open_bench : ℕ → Session
-open_bench v = record { is_open = true; bench = fresh_bench v; link = fresh_link }
+open_bench v = record { bench = Some (record { bench = fresh_bench v; link = fresh_link }) }
+
+abbrev pub variant_in : Option OpenBench → ℕ
+variant_in None = 0
+variant_in (Some o) = o.bench.variant
 
 abbrev pub variant_of : Session → ℕ
-variant_of x = pick x.is_open x.bench.variant 0
+variant_of x = variant_in x.bench
 
-abbrev pub state_of : Session → State
-state_of x = record { bench = x.bench; link = x.link }
+abbrev pub state_of : OpenBench → State
+state_of o = record { bench = o.bench; link = o.link }
 
-abbrev pub called : Session → State × Answer → Session × Answer
-called x t = (record { is_open = x.is_open; bench = t.0.bench; link = t.0.link }, t.1)
+-- check 1 refuses a call where no bench is open, as it does a call to a bench of variant 0
+abbrev pub called : Option OpenBench → Call → Session × Answer
+called None c = (no_bench, refused 1)
+called (Some o) c = (opened (bench_transition (state_of o) c).0, (bench_transition (state_of o) c).1)
 
 abbrev pub session_transition : Session → Call → Session × Answer
-session_transition x c = called x (bench_transition (state_of x) c)
+session_transition x c = called x.bench c
 
 abbrev pub session_line : Session → List ℕ → Session × List ℕ
 session_line = on_line variant_of open_bench session_transition

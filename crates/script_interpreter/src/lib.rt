@@ -8,20 +8,24 @@ ghost use Rattle.script_interpreter.specs.Session.{open_bench, variant_of, sessi
 
 use crate::records::{load_record, move_record};
 use bench::{Bench, Link};
-use bench_fresh::OpenAnswer;
-use bench_record::{BACK, CLEAR, FORWARD, LENGTH};
+use bench_record::{Kind, LENGTH};
 use katan::Refusal;
 use script_answers::Printed;
-use script_command::{Command, Line};
+use script_command::Command;
 
 mod records;
 
-// Whether a bench is open, and the bench and link.
+// An open bench and its link.
 #[derive(Clone, Copy)]
-pub struct Session {
-    pub is_open: bool,
+pub struct OpenBench {
     pub bench: Bench,
     pub link: Link,
+}
+
+// The open bench, if one is.
+#[derive(Clone, Copy)]
+pub struct Session {
+    pub bench: Option<OpenBench>,
 }
 
 // What a line leaves, and prints.
@@ -35,8 +39,10 @@ pub struct LineResult {
 fn variant_of(session: Session) -> u8
     ensures { result ≡ variant_of session }
 {
-    let bench = session.bench;
-    if session.is_open { bench.variant } else { 0 }
+    match session.bench {
+        Some(open) => open.bench.variant,
+        None => 0,
+    }
 }
 
 // A bench line.
@@ -44,64 +50,63 @@ fn opened(session: Session, variant: u8) -> LineResult
     ensures { result ≡ result_of (opens variant_of open_bench session_transition session variant) }
 {
     let opening = bench_fresh::open(variant);
-    let answer = opening.answer;
-    match answer {
-        OpenAnswer::Opened => {
-            let bench = opening.bench;
-            let link = opening.link;
-            let fresh = Session {
-                is_open: true,
-                bench: bench,
-                link: link,
+    match opening.answer {
+        Ok(()) => {
+            let open = OpenBench {
+                bench: opening.bench,
+                link: opening.link,
             };
             LineResult {
-                session: fresh,
+                session: Session { bench: Some(open) },
                 printed: script_answers::opened_line(variant),
             }
         }
-        OpenAnswer::Refused(r) => LineResult {
-            session: session,
-            printed: script_answers::refused_line(r),
+        Err(reason) => LineResult {
+            session,
+            printed: script_answers::refused_line(reason),
         },
     }
 }
 
 // A read line.
+#[tactic(auto, unfolding(bench::specs::Bench::bench_transition))]
 fn read(session: Session, lane: u8) -> LineResult
     ensures { result ≡ result_of (calls variant_of open_bench session_transition session lane (reading lane)) }
 {
-    let variant = variant_of(session);
-    let bench = session.bench;
-    let answer = bench_stepping::read(bench, lane as usize);
+    let answer = match session.bench {
+        Some(open) => bench_stepping::read(open.bench, usize::from(lane)),
+        None => Err(Refusal::BadVariant),
+    };
     LineResult {
-        session: session,
-        printed: script_answers::reading_line(variant, lane, answer),
+        session,
+        printed: script_answers::reading_line(variant_of(session), lane, answer),
     }
 }
 
 // A record's arrival.
+#[tactic(auto, using(script_answers::proofs::Lines::reply_line), unfolding(bench::specs::Bench::bench_transition))]
 fn sent(session: Session, bytes: [u8; LENGTH]) -> LineResult
     ensures { result ≡ result_of (sends variant_of open_bench session_transition session bytes) }
 {
-    let is_open = session.is_open;
-    let bench = session.bench;
-    let link = session.link;
-    let after = bench_stepping::arrive_once(bench, link, &bytes);
-    let reply = after.reply;
-    let next_bench = after.bench;
-    let next_link = after.link;
-    let next = Session {
-        is_open: is_open,
-        bench: next_bench,
-        link: next_link,
+    let Some(open) = session.bench else {
+        return LineResult {
+            session,
+            printed: script_answers::refused_line(Refusal::BadVariant),
+        };
+    };
+    let after = bench_stepping::arrive_once(open.bench, open.link, &bytes);
+    let open = OpenBench {
+        bench: after.bench,
+        link: after.link,
     };
     LineResult {
-        session: next,
-        printed: script_answers::reply_line(reply),
+        session: Session { bench: Some(open) },
+        printed: script_answers::reply_line(after.reply),
     }
 }
 
 // What a command does on the session.
+#[tactic(auto, unfolding(crate::specs::Interpreter::obeys))]
 fn run_command(session: Session, command: Command) -> LineResult
     ensures { result ≡ result_of (obeys variant_of open_bench session_transition session command) }
 {
@@ -119,24 +124,25 @@ fn run_command(session: Session, command: Command) -> LineResult
             number,
             mask,
             count,
-        } => { sent(session, move_record(FORWARD, number, mask, count)) }
+        } => { sent(session, move_record(Kind::Forward, number, mask, count)) }
         Command::Back {
             number,
             mask,
             count,
-        } => { sent(session, move_record(BACK, number, mask, count)) }
-        Command::Clear { number, mask } => sent(session, move_record(CLEAR, number, mask, 0)),
+        } => { sent(session, move_record(Kind::Back, number, mask, count)) }
+        Command::Clear { number, mask } => sent(session, move_record(Kind::Clear, number, mask, 0)),
     }
 }
 
 // A line without its line feed.
+#[tactic(auto, unfolding(crate::specs::Interpreter::takes_as, crate::specs::Interpreter::on_line))]
 pub fn line(session: Session, line: &[u8]) -> LineResult
     ensures { result ≡ result_of (session_line session line.now) }
 {
     match script_command::command_in(variant_of(session), line) {
-        Line::Taken(command) => run_command(session, command),
-        Line::Broken => LineResult {
-            session: session,
+        Some(command) => run_command(session, command),
+        None => LineResult {
+            session,
             printed: script_answers::refused_line(Refusal::BadForm),
         },
     }
