@@ -7,20 +7,20 @@ use Prim.Native.Nat.{ℕ, ◌+◌, ◌-◌, ◌*◌, ◌%◌, ◌^◌, ◌<◌, 
 use native.Mathlib.Nat.{lt_of_lt_of_le, div-eq_of_lt, div-add-mod', mul-zero}
 use native.Mathlib.Omega.{arith}
 use borrow.Author.Tests.{leb-true, leb-false, ne_eqb}
-use lib.Dec.{leb}
+use lib.Dec.{eqb, leb}
 use lib.ListN.{length, get_or}
 use lib.Pow.{pow_mono}
-use Rattle.katan.specs.Bit.{bit, tabulate}
+use Rattle.katan.specs.Bit.{bit, pick, tabulate}
 use Rattle.katan.specs.Clock.{run, unrun, block, registers}
 use Rattle.katan.specs.Counter.{counter, ir_of, rounds}
 use Rattle.katan.specs.Sizes.{word_bits}
-use Rattle.katan.specs.Variant.{row64}
+use Rattle.katan.specs.Variant.{row32, row48, row64}
 use Rattle.katan.specs.inner.Within.{Sound, Entries}
 use Rattle.katan.specs.declared.Row.{Row}
 use Rattle.katan.proofs.Bits.{bit-zero}
 use Rattle.katan.proofs.Positions.{registers_fit}
 use Rattle.katan.proofs.Tables.{entry, length-tabulate}
-use Rattle.katan.proofs.Undo.{unrun-run}
+use Rattle.katan.proofs.Undo.{sound, unrun-run}
 use Rattle.lanes_transpose.specs.Matrix.{transposed}
 use Rattle.lanes_transpose.proofs.Laws.{transposed_only}
 use Rattle.lanes_rounds.specs.Words.{width_row, lane_block, lane_input, all_rounds_run, all_rounds_undone}
@@ -31,6 +31,14 @@ use Rattle.lanes_rounds.proofs.Columns.{lane-bits, block-bit, block_lt, history_
 -- a number that is neither 32 nor 48 stands for 64
 pub other_width : (n : ℕ) → (n ≡ 32 → ⊥) → (n ≡ 48 → ⊥) → width_row n ≡ row64
 other_width n p q = rw (ne_eqb n 32 p, ne_eqb n 48 q)
+
+pub width_sound : (n : ℕ) → Sound (width_row n)
+width_sound n = by_tests (eqb n 32) (eqb n 48)
+  where
+    by_tests : (b c : Bool) → Sound (pick b row32 (pick c row48 row64))
+    by_tests true c = sound 1
+    by_tests false true = sound 2
+    by_tests false false = sound 3
 
 -- ---- the registers that a run starts from are still placed after it
 

@@ -1,6 +1,6 @@
 -- Clocks in the buffers, made forward and backward.
 -- Assumes nothing.
-use mathlib.Core.Path.{◌≡◌, sym, ap, ap₂, ◌∙◌}
+use mathlib.Core.Path.{◌≡◌, refl, sym, ap, ap₂, subst, ◌∙◌}
 use mathlib.Core.List.{List}
 use Prim.Native.Nat.{ℕ, ◌+◌, ◌-◌, ◌<◌, ◌≤◌}
 use native.Mathlib.Nat.{add-sub_cancel}
@@ -26,6 +26,28 @@ after1 s t = omega (arith, s.top1)
 
 pub after2 : {v : Row} → Sound v → (t : ℕ) → t + v.y1 + 1 ≡ t + v.len2
 after2 s t = omega (arith, s.top2)
+
+-- what the code stores at clock t, with the row v of the width w
+module _ (w v : Row) (e : v ≡ w) (s : Sound w) (t : ℕ) (a b : List ℕ) (u : RoundInput) where
+  pub stored_fb : {x : ℕ} → x ≡ fb_rest xor and w (tapped b (t + v.y1)) u.kb → set a (t + v.x1 + 1) (xor (get_or b t 0) x) ≡ set a (t + w.len1) (fb xor and w (tapped b (t + w.y1)) u.kb)
+  stored_fb {x} =
+      subst (λ (y : Row). x ≡ fb_rest xor and w (tapped b (t + y.y1)) u.kb → set a (t + y.x1 + 1) (xor (get_or b t 0) x) ≡ set a (t + w.len1) (fb xor and w (tapped b (t + w.y1)) u.kb)) (sym e)
+      (λ p. xor_at a (after1 s t) (ap (λ (n : ℕ). get_or b n 0) (sym (add-sub_cancel t w.y1))) p)
+
+  pub stored_fa : {x : ℕ} → x ≡ fa_rest xor and w (tapped a (t + v.x1)) u.ir u.ka → set b (t + v.y1 + 1) (xor (get_or a t 0) x) ≡ set b (t + w.len2) (fa xor and w (tapped a (t + w.x1)) u.ir u.ka)
+  stored_fa {x} =
+      subst (λ (y : Row). x ≡ fa_rest xor and w (tapped a (t + y.x1)) u.ir u.ka → set b (t + y.y1 + 1) (xor (get_or a t 0) x) ≡ set b (t + w.len2) (fa xor and w (tapped a (t + w.x1)) u.ir u.ka)) (sym e)
+      (λ p. xor_at b (after2 s t) (ap (λ (n : ℕ). get_or a n 0) (sym (add-sub_cancel t w.x1))) p)
+
+  pub restored1 : {x : ℕ} → x ≡ fa_rest xor and w (tapped a (t + v.x1)) u.ir u.ka → set a t (xor (get_or b (t + v.y1 + 1) 0) x) ≡ set a t (xor (get_or b (t + w.len2) 0) (fa_rest xor and w (tapped a (t + w.x1)) u.ir u.ka))
+  restored1 {x} =
+      subst (λ (y : Row). x ≡ fa_rest xor and w (tapped a (t + y.x1)) u.ir u.ka → set a t (xor (get_or b (t + y.y1 + 1) 0) x) ≡ set a t (xor (get_or b (t + w.len2) 0) (fa_rest xor and w (tapped a (t + w.x1)) u.ir u.ka))) (sym e)
+      (λ p. xor_at a refl (ap (λ (n : ℕ). get_or b n 0) (after2 s t)) p)
+
+  pub restored2 : {x : ℕ} → x ≡ fb_rest xor and w (tapped b (t + v.y1)) u.kb → set b t (xor (get_or a (t + v.x1 + 1) 0) x) ≡ set b t (xor (get_or a (t + w.len1) 0) (fb_rest xor and w (tapped b (t + w.y1)) u.kb))
+  restored2 {x} =
+      subst (λ (y : Row). x ≡ fb_rest xor and w (tapped b (t + y.y1)) u.kb → set b t (xor (get_or a (t + y.x1 + 1) 0) x) ≡ set b t (xor (get_or a (t + w.len1) 0) (fb_rest xor and w (tapped b (t + w.y1)) u.kb))) (sym e)
+      (λ p. xor_at b refl (ap (λ (n : ℕ). get_or a n 0) (after1 s t)) p)
 
 -- n clocks from clock first on are made with one input
 abbrev pub Clocks : Row → RoundInput → (first n : ℕ) → List ℕ → List ℕ → Type 0

@@ -4,8 +4,8 @@ use mathlib.Core.Path.{◌≡◌, refl, sym, ap, subst, ◌∙◌}
 use mathlib.Core.Bool.{Bool, true, false}
 use mathlib.Core.Logic.{⊎_elim}
 use mathlib.Core.List.{List}
-use Prim.Native.Nat.{ℕ, zero, suc, ◌+◌, ◌*◌, ◌<◌, ◌≤◌}
-use native.Mathlib.Nat.{eq-or-lt_of_le, mul-le-mul_left, mul-zero, mul-suc}
+use Prim.Native.Nat.{ℕ, ◌+◌, ◌*◌, ◌<◌, ◌≤◌}
+use native.Mathlib.Nat.{eq-or-lt_of_le, mul-le-mul_left}
 use native.Mathlib.Omega.{arith}
 use borrow.Author.Tests.{ltb-true, ltb-false}
 use lib.Dec.{ltb}
@@ -17,7 +17,9 @@ use Rattle.katan.specs.Clock.{fa, fb, fa_rest, fb_rest}
 use Rattle.katan.specs.inner.Within.{Sound}
 use Rattle.katan.specs.declared.Row.{Row}
 use Rattle.katan.specs.declared.RoundInput.{RoundInput}
-use Rattle.lanes_rounds.specs.inner.Buffers.{tapped, Room, word_input, Clocked, History, KeptBelow, KeptFrom, Placed, Turns, Forward, Backward}
+use Rattle.lanes_rounds.specs.inner.Buffers.{tapped, Room, word_input, Clocked, History, KeptBelow, KeptFrom, Placed, Told, Forward, Backward}
+use Rattle.katan.proofs.Undo.{sound}
+use Rattle.katan_variants.specs.Widths.{IsRow}
 use Rattle.lanes_rounds.proofs.Clocks.{Clocks, still, made, unmade}
 
 room_set : {v : Row} {a b : List ℕ} → Room v a b → (i x k y : ℕ) → Room v (set a i x) (set b k y)
@@ -27,13 +29,6 @@ room_set {v} {a} {b} r i x k y =
 -- a position lies within all clocks
 pub few : (n r : ℕ) → r ≤ rounds → n * r ≤ n * rounds
 few n r h = mul-le-mul_left n h
-
--- what is not touched is kept
-pub untouched_below : (v : Row) (t : ℕ) (a b : List ℕ) → KeptBelow v t a b a b
-untouched_below v t a b = record { below1 = λ i q. refl; below2 = λ i q. refl; long1 = refl; long2 = refl }
-
-pub untouched_from : (t : ℕ) (a b : List ℕ) → KeptFrom t a b a b
-untouched_from t a b = record { from1 = λ i q. refl; from2 = λ i q. refl; long1 = refl; long2 = refl }
 
 -- the same at an equal clock
 pub placed_at : (v : Row) (t u : ℕ) (words a b : List ℕ) → t ≡ u → Placed v t words a b → Placed v u words a b
@@ -139,14 +134,6 @@ module _ (v : Row) (irs keys a b : List ℕ) (r f n : ℕ) (ef : f ≡ v.clocks 
       (subst (λ (w : RoundInput). Clocked v w (v.clocks * r + c) a b) eu
       (subst (λ (y : ℕ). Clocked v u (y + c) a b) ef (made-now c (omega arith))))
 
--- no round is made yet
-module _ (v : Row) (irs keys a b : List ℕ) (p : ℕ) (m : Room v a b) where
-  pub forward_none : Forward v irs keys p p a b a b
-  forward_none = record { room = m; made = λ q c z l. absurd (omega arith); kept = untouched_below v (v.clocks * p) a b }
-
-  pub backward_none : Backward v irs keys p p a b a b
-  backward_none = record { room = m; made = λ q c z l. absurd (omega arith); kept = untouched_from (v.clocks * p) a b }
-
 -- rounds up to position q, and rounds from there on
 module _ {v : Row} (s : Sound v) {irs keys : List ℕ} {p q t : ℕ} (h : p ≤ q) (k : q ≤ t) {a b a' b' a'' b'' : List ℕ} where
   pub forward_then : Forward v irs keys p q a b a' b' → Forward v irs keys q t a' b' a'' b'' → Forward v irs keys p t a b a'' b''
@@ -198,36 +185,24 @@ pub backward_as : {v : Row} {irs keys a b a' b' : List ℕ} (p q t u : ℕ) → 
 backward_as {v} {irs} {keys} {a} {b} {a'} {b'} p q t u d e h =
     subst (λ (x : ℕ). Backward v irs keys x u a b a' b') d (subst (λ (y : ℕ). Backward v irs keys p y a b a' b') e h)
 
--- ---- turns
+-- ---- what is known of a row of the table
 
--- whole turns that are not all done have a turn, and after it, at either end, they are whole turns still
-pub turn_fits : {k p q : ℕ} → Turns k p q → p < q → p + k ≤ q
-turn_fits {k} {p} {q} t h = by_turns t.turns t.whole
-  where
-    by_turns : (n : ℕ) → p + k * n ≡ q → p + k ≤ q
-    by_turns zero e = absurd (omega (arith, mul-zero k))
-    by_turns (suc n) e = omega (arith, mul-suc k n)
+sound_row : {v : Row} → IsRow v → Sound v
+sound_row k =
+    ⊎_elim (λ f. subst Sound (sym f) (sound 1)) (λ m. ⊎_elim (λ f. subst Sound (sym f) (sound 2)) (λ f. subst Sound (sym f) (sound 3)) m) k
 
-pub turn_less : {k p q : ℕ} (r l : ℕ) → Turns k p q → p < q → q + r ≡ l + p + k → Turns k r l
-turn_less {k} {p} {q} r l t h d = by_turns t.turns t.whole
-  where
-    by_turns : (n : ℕ) → p + k * n ≡ q → Turns k r l
-    by_turns zero e = absurd (omega (arith, mul-zero k))
-    by_turns (suc n) e = record { some = t.some; turns = n; whole = omega (arith, mul-suc k n) }
+pub told : (w v : Row) → v ≡ w → IsRow w → Told w v
+told w v e k =
+    record {
+      same = e;
+      sound = subst Sound (sym e) (sound_row k);
+      n_is = ap (λ (x : Row). x.n) e;
+      len1_is = ap (λ (x : Row). x.len1) e;
+      len2_is = ap (λ (x : Row). x.len2) e;
+      x1_is = ap (λ (x : Row). x.x1) e;
+      y1_is = ap (λ (x : Row). x.y1) e;
+      clocks_is = ap (λ (x : Row). x.clocks) e;
+    }
 
--- ---- what is asked of a row v of the table
-
-pub sound_of : (v w : Row) → v ≡ w → Sound w → Sound v
-sound_of v w e s = subst Sound (sym e) s
-
-module _ (v w : Row) (e : v ≡ w) (s : Sound w) {a b : List ℕ} where
-  pub room_of : Room w a b → Room v a b
-  room_of m = subst (λ (x : Row). Room x a b) (sym e) m
-
-  -- placing registers, and taking them
-  pub at_position : Room v a b → (p : ℕ) → p ≤ rounds → Sound v × Room v a b × (p ≤ rounds)
-  at_position m p q = (sound_of v w e s, m, q)
-
-  -- all rounds, in turns of k
-  pub ready : Room v a b → (k n : ℕ) → 1 ≤ k → k * n ≡ rounds → Sound v × (w.clocks ≡ v.clocks) × Room v a b × Turns k 0 rounds × (rounds ≤ rounds)
-  ready m k n h q = (sound_of v w e s, sym (ap (λ (x : Row). x.clocks) e), m, record { some = h; turns = n; whole = omega arith }, omega arith)
+pub told_sound : {w v : Row} → Told w v → Sound w
+told_sound t = subst Sound t.same t.sound

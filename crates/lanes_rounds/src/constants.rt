@@ -1,12 +1,12 @@
 // The numbers that lengths and loops go by, and the table of IR words.
 use katan::ROUND_COUNT;
 
-// The clocks a round of each width, as its row has them: here they are constants, as the lengths and the loops want.
-pub const CLOCKS_32: usize = 1;
+// The clocks a round of each width, as its row has them: here they are constants, as the lengths want.
+const CLOCKS_32: usize = 1;
 
-pub const CLOCKS_48: usize = 2;
+const CLOCKS_48: usize = 2;
 
-pub const CLOCKS_64: usize = 3;
+const CLOCKS_64: usize = 3;
 
 // The rounds of a turn of the loop at each width, as measured: a turn has two clocks, or six, and becomes operations on pairs of words.
 pub const TURN_32: u8 = 2;

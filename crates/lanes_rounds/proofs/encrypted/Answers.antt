@@ -1,73 +1,17 @@
-use mathlib.Core.Path.{refl, sym, ap, ◌∙◌}
+use mathlib.Core.Path.{refl}
 use Prim.Native.Nat.{ℕ}
-use native.Mathlib.Omega.{arith}
 use borrow.Author.Rules.{rules}
 use lib.ListN.{get_or}
 use mir.Syntax.{w64}
 use mir.Val.{Fits}
-use Rattle.katan.specs.Counter.{rounds}
-use Rattle.katan.proofs.Undo.{sound}
 use Rattle.lanes_rounds.specs.Words.{width_row}
-use Rattle.lanes_rounds.proofs.Histories.{sound_of, room_of, at_position, ready}
-use Rattle.lanes_rounds.proofs.AllRounds.{other_width, all_run}
+use Rattle.lanes_rounds.proofs.AllRounds.{width_sound, all_run}
 use Rattle.lanes_rounds.proofs.encrypted.Goals as goal
 
-pub place-requires : goal.place-requires
-place-requires c =
-    let e = c.row-v.ensures in
-    at_position _ _ e (sound 1) (room_of _ _ e (sound 1) (record { room1 = omega arith; room2 = omega arith })) 0 (omega arith)
-
-pub run-requires : goal.run-requires
-run-requires c = ready _ _ c.row-v.ensures (sound 1) c.place.ensures.room 2 127 (omega arith) refl
-
-pub words_at-requires : goal.words_at-requires
-words_at-requires c = at_position _ _ c.row-v.ensures (sound 1) c.run.ensures.room rounds (omega arith)
-
-pub place-requires-in-48 : goal.place-requires-in-48
-place-requires-in-48 c =
-    let e = c.row-v-in-48.ensures in
-    at_position _ _ e (sound 2) (room_of _ _ e (sound 2) (record { room1 = omega arith; room2 = omega arith })) 0 (omega arith)
-
-pub run-requires-in-48 : goal.run-requires-in-48
-run-requires-in-48 c = ready _ _ c.row-v-in-48.ensures (sound 2) c.place-in-48.ensures.room 1 254 (omega arith) refl
-
-pub words_at-requires-in-48 : goal.words_at-requires-in-48
-words_at-requires-in-48 c = at_position _ _ c.row-v-in-48.ensures (sound 2) c.run-in-48.ensures.room rounds (omega arith)
-
-pub place-requires-in_default : goal.place-requires-in_default
-place-requires-in_default c =
-    let e = c.row-v-in_default.ensures in
-    at_position _ _ e (sound 3) (room_of _ _ e (sound 3) (record { room1 = omega arith; room2 = omega arith })) 0 (omega arith)
-
-pub run-requires-in_default : goal.run-requires-in_default
-run-requires-in_default c = ready _ _ c.row-v-in_default.ensures (sound 3) c.place-in_default.ensures.room 2 127 (omega arith) refl
-
-pub words_at-requires-in_default : goal.words_at-requires-in_default
-words_at-requires-in_default c = at_position _ _ c.row-v-in_default.ensures (sound 3) c.run-in_default.ensures.room rounds (omega arith)
-
-pub returns-in-32 : goal.returns-in-32
-returns-in-32 c =
-    let v = c.row-v in
+pub returns : goal.returns
+returns c =
     let a = c.args in
-    let r = c.words_at in
-    let g : (k : ℕ) → Fits w64 (get_or r.result k 0) = λ k. search (rules, r.type_inv) in
-    all_run a.n v.result (v.ensures ∙ sym (ap width_row c.in-32.is)) (sound_of _ _ v.ensures (sound 1)) _ a.keys.now a.words.now r.result _ _ _ _
-    c.ir_words-irs.ensures (search (rules, r.type_inv)) (λ k. (g k).fits) r.ensures.by_index c.place.ensures.placed c.run.ensures r.ensures.placed
-
-pub returns-in-48 : goal.returns-in-48
-returns-in-48 c =
-    let v = c.row-v-in-48 in
-    let a = c.args in
-    let r = c.words_at-in-48 in
-    let g : (k : ℕ) → Fits w64 (get_or r.result k 0) = λ k. search (rules, r.type_inv) in
-    all_run a.n v.result (v.ensures ∙ sym (ap width_row c.in-48.is)) (sound_of _ _ v.ensures (sound 2)) _ a.keys.now a.words.now r.result _ _ _ _
-    c.ir_words-irs.ensures (search (rules, r.type_inv)) (λ k. (g k).fits) r.ensures.by_index c.place-in-48.ensures.placed c.run-in-48.ensures r.ensures.placed
-
-pub returns-in_default : goal.returns-in_default
-returns-in_default c =
-    let v = c.row-v-in_default in
-    let a = c.args in
-    let r = c.words_at-in_default in
-    let g : (k : ℕ) → Fits w64 (get_or r.result k 0) = λ k. search (rules, r.type_inv) in
-    all_run a.n v.result (v.ensures ∙ sym (other_width a.n c.in_default.in_default-own.rest.0.1 c.in_default.in_default-own.rest.1)) (sound_of _ _ v.ensures (sound 3)) _ a.keys.now a.words.now r.result _ _ _ _
-    c.ir_words-irs.ensures (search (rules, r.type_inv)) (λ k. (g k).fits) r.ensures.by_index c.place-in_default.ensures.placed c.run-in_default.ensures r.ensures.placed
+    let r = c.at_width in
+    let k = r.ensures in
+    let g : (i : ℕ) → Fits w64 (get_or r.result i 0) = λ i. search (rules, r.type_inv) in
+    all_run a.n (width_row a.n) refl (width_sound a.n) k.irs a.keys.now a.words.now r.result k.a₀ k.b₀ k.a k.b k.rule (search (rules, r.type_inv)) (λ i. (g i).fits) k.clear k.placed k.all k.stands

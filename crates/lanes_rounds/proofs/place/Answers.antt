@@ -1,41 +1,38 @@
-use mathlib.Core.Path.{ap, ◌∙◌}
-use Prim.Native.Nat.{ℕ}
+use mathlib.Core.Path.{ap, subst, ◌∙◌}
+use Prim.Native.Nat.{ℕ, ◌*◌}
 use native.Mathlib.Nat.{zero-add}
 use native.Mathlib.Omega.{arith}
 use lib.ListN.{get_or}
+use Rattle.katan.specs.declared.Row.{Row}
+use Rattle.lanes_rounds.specs.inner.Buffers.{Placed}
 use Rattle.lanes_rounds.proofs.Histories.{few, placed_at}
 use Rattle.lanes_rounds.proofs.place.Goals as goal
 
 pub overflow_add-t : goal.overflow_add-t
-overflow_add-t c =
-    let s = c.requires.0 in
-    omega (arith, c.first_clock-t.ensures, few c.args.v.clocks c.args.at.0 c.requires.2, s.few, s.len1_fits, s.top1)
+overflow_add-t g c =
+    let f = few c.row-v.result.clocks c.args.at.0 c.requires.1 in
+    omega arith
 
 pub load-requires : goal.load-requires
-load-requires c =
-    let s = c.requires.0 in
-    let f = few c.args.v.clocks c.args.at.0 c.requires.2 in
-    let e = c.first_clock-t.ensures in
-    (omega (arith, s.both, s.n_fits), omega (arith, s.top1), omega (arith, e, f, s.top1, c.requires.1.room1))
+load-requires g c =
+    let f = few c.row-v.result.clocks c.args.at.0 c.requires.1 in
+    (omega arith, omega arith, omega arith)
 
 pub overflow_add-t-2 : goal.overflow_add-t-2
-overflow_add-t-2 c =
-    let s = c.requires.0 in
-    omega (arith, c.first_clock-t.ensures, few c.args.v.clocks c.args.at.0 c.requires.2, s.few, s.len2_fits, s.top2)
+overflow_add-t-2 g c =
+    let f = few c.row-v.result.clocks c.args.at.0 c.requires.1 in
+    omega arith
 
 pub load-requires-2 : goal.load-requires-2
-load-requires-2 c =
-    let s = c.requires.0 in
-    let f = few c.args.v.clocks c.args.at.0 c.requires.2 in
-    let e = c.first_clock-t.ensures in
-    (omega (arith, s.both, s.n_fits), omega (arith, s.top2), omega (arith, e, f, s.top2, c.requires.1.room2))
+load-requires-2 g c =
+    let f = few c.row-v.result.clocks c.args.at.0 c.requires.1 in
+    (omega arith, omega arith, omega arith)
 
-pub returns : goal.returns
-returns c =
+pub returns-clause-placed : goal.returns-clause-placed
+returns-clause-placed g c =
     let words = c.args.words.now in
-    let l1 = c.load.ensures in
-    let l2 = c.load-2.ensures in record {
-      room = record { room1 = rw l1.l_len_unchanged c.requires.1.room1; room2 = rw l2.l_len_unchanged c.requires.1.room2 };
-      placed = placed_at c.args.v _ _ words _ _ c.first_clock-t.ensures
-          (record { placed2 = λ i q. l2.by_index i q ∙ ap (λ (n : ℕ). get_or words n 0) (zero-add i); placed1 = λ i q. l1.by_index i q });
-    }
+    let a = c.load.new.l in
+    let b = c.load-2.new.l in
+    subst (λ (y : Row). Placed y (y.clocks * c.args.at.0) words a b) c.row-v.ensures.same
+    (placed_at c.row-v.result _ _ words a b c.first_clock-t.ensures
+    (record { placed2 = λ i q. c.load-2.ensures.by_index i q ∙ ap (λ (n : ℕ). get_or words n 0) (zero-add i); placed1 = λ i q. c.load.ensures.by_index i q }))

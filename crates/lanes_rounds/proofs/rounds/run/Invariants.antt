@@ -1,9 +1,11 @@
-use Prim.Native.Nat.{◌-◌, ◌≤◌}
-use Rattle.lanes_rounds.specs.inner.Buffers.{Turns, Forward}
+use Prim.Native.Nat.{◌+◌, ◌*◌}
+use Rattle.lanes_rounds.specs.inner.Buffers.{Room}
 use Rattle.lanes_rounds.proofs.rounds.run.Given as goal
 
-abbrev pub invariant-loop-at : goal.invariant-loop-at
-invariant-loop-at l = (l.at.0 ≤ l.count) × Turns l.turn l.at.0 l.count × Forward l.v l.irs l.keys 0 l.at.0 l.initial.a l.initial.b l.a l.b
+abbrev pub invariant-loop-turn : goal.invariant-loop-turn
+invariant-loop-turn g l =
+    Room g.W.Width.row l.a l.b × g.D.Way.made g.W.Width.row l.irs l.keys (g.row.TURN * l.turn) l.initial.a l.initial.b l.a l.b
 
-abbrev pub decreases-loop-at : goal.decreases-loop-at
-decreases-loop-at l = l.count - l.at.0
+abbrev pub invariant-loop-i : goal.invariant-loop-i
+invariant-loop-i g l =
+    Room g.W.Width.row l.a l.b × g.D.Way.made g.W.Width.row l.irs l.keys (g.row.TURN * l.turn + l.i) l.fn.a l.fn.b l.a l.b

@@ -1,16 +1,13 @@
-use mathlib.Core.Path.{refl, ap}
-use Prim.Native.Nat.{ℕ}
-use lib.ListN.{get_or, length-set}
-use Rattle.lanes_rounds.proofs.Clocks.{xor_at, after1, after2}
+use Rattle.lanes_rounds.proofs.Clocks.{restored1, restored2}
+use Rattle.lanes_rounds.proofs.Histories.{told_sound}
 use Rattle.lanes_rounds.proofs.rounds.unclock_at.Goals as goal
 
-pub shape_of-a : goal.shape_of-a
-shape_of-a c = simp length-set
+pub returns-clause-a_after : goal.returns-clause-a_after
+returns-clause-a_after g c =
+    let k = c.row-v.ensures in
+    restored1 g.W.Width.row _ k.same (told_sound k) c.args.at.0 c.args.a.now c.args.b.now c.args.u c.fa_rest.ensures
 
-pub shape_of-b : goal.shape_of-b
-shape_of-b c = simp length-set
-
-pub returns : goal.returns
-returns c =
-    let s = c.requires.0 in
-    let t = c.args.at.0 in record { a_after = xor_at c.args.a.now refl (ap (λ (n : ℕ). get_or c.args.b.now n 0) (after2 s t)) c.fa_rest.ensures; b_after = xor_at c.args.b.now refl (ap (λ (n : ℕ). get_or c.args.a.now n 0) (after1 s t)) c.fb_rest.ensures }
+pub returns-clause-b_after : goal.returns-clause-b_after
+returns-clause-b_after g c =
+    let k = c.row-v.ensures in
+    restored2 g.W.Width.row _ k.same (told_sound k) c.args.at.0 c.args.a.now c.args.b.now c.args.u c.fb_rest.ensures
