@@ -47,59 +47,61 @@ fn rows_of(blocks: &[u64]) -> [u64; WORD_BITS]
     rows
 }
 
-// All rounds on the words, either way.
-fn all_rounds(
+// What a call is told of its blocks, which have n bits, and their keys.
+#[derive(Clone, Copy)]
+struct Call<'a> {
     direction: Direction,
+    variant: u8,
     n: usize,
-    keys: &[u64; ROUND_KEYS],
-    words: &[u64; WORD_BITS],
-) -> [u64; WORD_BITS]
-    ensures { result ≡ all_rounds direction n keys.now words.now }
-{
-    match direction {
-        Direction::Encrypt => lanes_rounds::encrypted(n, keys, words),
-        Direction::Decrypt => lanes_rounds::decrypted(n, keys, words),
+    keys: &'a [u8],
+    ghost width: { n ≡ width_of variant },
+}
+
+impl Call<'_> {
+    // All rounds on the words, either way.
+    fn all_rounds(
+        &self,
+        round_keys: &[u64; ROUND_KEYS],
+        words: &[u64; WORD_BITS],
+    ) -> [u64; WORD_BITS]
+        ensures { result ≡ all_rounds self.now.direction self.now.n round_keys.now words.now }
+    {
+        match self.direction {
+            Direction::Encrypt => lanes_rounds::encrypted(self.n, round_keys, words),
+            Direction::Decrypt => lanes_rounds::decrypted(self.n, round_keys, words),
+        }
     }
-}
 
-// From the words of the blocks of n bits to the results as rows. `high` has bits 64 to 79 of the keys in its words 48 to 63.
-fn rows_from_words(
-    direction: Direction,
-    variant: u8,
-    n: usize,
-    keys: &[u8],
-    count: usize,
-    words: &[u64; WORD_BITS],
-    high: &[u64; WORD_BITS],
-) -> [u64; WORD_BITS]
-    requires { (n ≡ width_of variant) × (count ≤ word_bits) × (key_bytes * count ≤ length keys.now) × HighLanes (block_key keys.now) count high.now }
-    ensures { Entries (λ j. one_block direction variant (block_key keys.now j) (lane_block (row_of variant) words.now j)) count result }
-{
-    let round_keys = lanes_keys::round_words(variant, key_words(keys, count, high));
-    lanes_transpose::transpose(all_rounds(direction, n, &round_keys, words))
-}
+    // From the words of the blocks to the results as rows. `high` has bits 64 to 79 of the keys in its words 48 to 63.
+    fn rows_from_words(
+        &self,
+        count: usize,
+        words: &[u64; WORD_BITS],
+        high: &[u64; WORD_BITS],
+    ) -> [u64; WORD_BITS]
+        requires { (count ≤ word_bits) × (key_bytes * count ≤ length self.now.keys.now) × HighLanes (block_key self.now.keys.now) count high.now }
+        ensures { Entries (λ j. one_block self.now.direction self.now.variant (block_key self.now.keys.now j) (lane_block (row_of self.now.variant) words.now j)) count result }
+    {
+        let round_keys = lanes_keys::round_words(self.variant, key_words(self.keys, count, high));
+        lanes_transpose::transpose(self.all_rounds(&round_keys, words))
+    }
 
-// The results, as rows.
-fn result_rows(
-    direction: Direction,
-    variant: u8,
-    n: usize,
-    keys: &[u8],
-    blocks: &[u64],
-) -> [u64; WORD_BITS]
-    requires n_value { (n ≡ width_of variant) × (length blocks.now ≤ word_bits) × (key_bytes * length blocks.now ≤ length keys.now) }
-    requires by_index { (i : ℕ) → i < length blocks.now → get_or blocks.now i 0 < 2 ^ n }
-    ensures { Entries (λ i. one_block direction variant (block_key keys.now i) (get_or blocks.now i 0)) (length blocks.now) result }
-{
-    let count = blocks.len();
-    if n <= HIGH_PLACE {
-        let words = lanes_transpose::transpose(with_high(blocks, keys, count));
-        rows_from_words(direction, variant, n, keys, count, &words, &words)
-    } else {
-        let words = lanes_transpose::transpose(rows_of(blocks));
-        let zeros = [0u64; WORD_BITS];
-        let high = lanes_transpose::transpose(with_high(&zeros, keys, count));
-        rows_from_words(direction, variant, n, keys, count, &words, &high)
+    // The results, as rows.
+    fn result_rows(&self, blocks: &[u64]) -> [u64; WORD_BITS]
+        requires lengths { (length blocks.now ≤ word_bits) × (key_bytes * length blocks.now ≤ length self.now.keys.now) }
+        requires by_index { (i : ℕ) → i < length blocks.now → get_or blocks.now i 0 < 2 ^ self.now.n }
+        ensures { Entries (λ i. one_block self.now.direction self.now.variant (block_key self.now.keys.now i) (get_or blocks.now i 0)) (length blocks.now) result }
+    {
+        let count = blocks.len();
+        if self.n <= HIGH_PLACE {
+            let words = lanes_transpose::transpose(with_high(blocks, self.keys, count));
+            self.rows_from_words(count, &words, &words)
+        } else {
+            let words = lanes_transpose::transpose(rows_of(blocks));
+            let zeros = [0u64; WORD_BITS];
+            let high = lanes_transpose::transpose(with_high(&zeros, self.keys, count));
+            self.rows_from_words(count, &words, &high)
+        }
     }
 }
 
@@ -122,7 +124,13 @@ pub fn many(
     if any_wide(row.n, blocks) {
         return Err(Refusal::BadBlock);
     }
-    let rows = result_rows(direction, variant, row.n, keys, blocks);
+    let call = Call {
+        direction,
+        variant,
+        n: row.n,
+        keys,
+    };
+    let rows = call.result_rows(blocks);
     out.copy_from_slice(&rows[..n]);
     Ok(())
 }

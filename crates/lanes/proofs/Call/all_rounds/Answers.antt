@@ -1,4 +1,4 @@
-use Rattle.lanes.proofs.all_rounds.Goals as goal
+use Rattle.lanes.proofs.Call.all_rounds.Goals as goal
 
 pub returns-in-Encrypt : goal.returns-in-Encrypt
 returns-in-Encrypt c = rw c.in-Encrypt.is c.encrypted.ensures
