@@ -1,3 +1,1 @@
 pub mod Held
-mod Arrivals
-mod Previews

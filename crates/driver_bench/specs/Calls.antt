@@ -5,6 +5,8 @@ use Rattle.std.specs.Prelude.{ℕ, List, [], ◌∷◌, ◌++◌, ◌&&◌, eqb,
 use Rattle.katan.specs.Bit.{pick}
 use Rattle.katan.specs.Checks.{Outcome, value, refused, Check, checked, size_check, variant_check}
 use Rattle.katan.specs.Lent.{lent_after}
+use Rattle.bench.specs.declared.Reply.{Reply}
+use Rattle.bench.specs.declared.Reply.TheVariants.{Done, Again}
 use Rattle.bench.specs.Calls.{done, again, at, Answer}
 use Rattle.bench.specs.Bench.{fresh_bench, fresh_link, held_check, Effect, arrive_of}
 use Rattle.driver_layout.specs.Layout.{bench_length, link_length, bench_in, link_in, bench_bytes, link_bytes}
@@ -27,6 +29,11 @@ module _ (v : ℕ) (bench link : List ℕ) where
 -- the words lent for the answer to an arrival or a preview
 abbrev pub arrival_words : ℕ
 arrival_words = 3
+
+-- a reply in these words
+abbrev pub reply_words : Reply → List ℕ
+reply_words (Done n t) = response_words (done n t)
+reply_words (Again n t) = response_words (again n t)
 
 -- only an arrival that is 'done' has counted, and alters bench and link
 abbrev pub if_counted : Answer → List ℕ → List ℕ → List ℕ

@@ -2,22 +2,16 @@
 // the first fault found, and a refused call leaves every lent output as it was, but for a preview's room.
 #![tactic(auto)]
 
-ghost use Rattle.std.specs.Prelude.{◌≡◌, [], ◌∷◌, length};
-ghost use Rattle.katan.specs.Lent.{status_of, lent_after};
-ghost use Rattle.bench.specs.Bench.{reply_answer};
-ghost use Rattle.driver_layout.specs.Layout.{bench_length, link_length, bench_bytes, link_bytes};
-ghost use Rattle.driver_reads.specs.Calls.{response_words};
-ghost use Rattle.driver_bench.specs.Calls.{open_call, opened_bench, opened_link, arrival_words, if_counted, arrive_call, arrived_bench, arrived_link, arrived_answer, preview_call, previewed_answer, previewed_room};
+ghost use Rattle.std.specs.Prelude.{◌≡◌};
+ghost use Rattle.katan.specs.Checks.{outcome};
+ghost use Rattle.katan.specs.Lent.{status_of};
+ghost use Rattle.driver_bench.specs.Calls.{reply_words, open_call, opened_bench, opened_link, arrive_call, arrived_bench, arrived_link, arrived_answer, preview_call, previewed_answer, previewed_room};
 
-use bench::{ArrivalResult, Reply};
-use bench_stepping::PreviewResult;
+use bench::Reply;
 use driver_layout::{BENCH_LENGTH, LINK_LENGTH, bench_in, link_in, put_bench, put_copy, put_link};
 use driver_reads::bench_or_length;
 use katan::Refusal;
-use katan_variants::refusal_number;
-
-// The status of a call that is not refused.
-const ACCEPTED: u8 = 0;
+use katan_variants::status;
 
 // The words lent for the answer to an arrival or a preview.
 const ARRIVAL_WORDS: usize = 3;
@@ -27,67 +21,96 @@ const DONE: u32 = 0;
 
 const AGAIN: u32 = 1;
 
-// 'done' or 'again', then number and total.
-fn put_response(again: u32, number: u32, total: u32, answer: &mut [u32])
-    requires { length answer.old ≡ arrival_words }
-    ensures { answer.new ≡ again ∷ number ∷ total ∷ [] }
-{
-    answer[0] = again;
-    answer[1] = number;
-    answer[2] = total;
-}
-
-// What a record is answered, into the words lent for it.
-fn put_reply(reply: Reply, answer: &mut [u32]) -> u8
-    requires { length answer.old ≡ arrival_words }
-    ensures { (result ≡ status_of (reply_answer reply)) × (answer.new ≡ lent_after response_words (reply_answer reply) answer.old) }
+// A reply in words: 'done' or 'again', then number and total.
+fn reply_words(reply: Reply) -> [u32; ARRIVAL_WORDS]
+    ensures { result ≡ reply_words reply }
 {
     match reply {
-        Reply::Done { number, total } => {
-            put_response(DONE, number, total, answer);
-            ACCEPTED
-        }
-        Reply::Again { number, total } => {
-            put_response(AGAIN, number, total, answer);
-            ACCEPTED
-        }
-        Reply::Refused(r) => refusal_number(r),
+        Reply::Done { number, total } => [DONE, number, total],
+        Reply::Again { number, total } => [AGAIN, number, total],
     }
 }
 
-// Bench and link are written only by an arrival that counts.
-fn put_arrival(after: ArrivalResult, bench: &mut [u8], link: &mut [u8])
-    requires { (length bench.old ≡ bench_length) × (length link.old ≡ link_length) }
-    ensures { (bench.new ≡ if_counted (reply_answer after.reply) (bench_bytes after.bench bench.old) bench.old)
-        × (link.new ≡ if_counted (reply_answer after.reply) (link_bytes after.link) link.old) }
+// A fresh bench and link, where variant and lent memory are sound.
+fn put_opened(variant: u8, bench: &mut [u8], link: &mut [u8]) -> Result<(), Refusal>
+    ensures value { status_of (outcome result) ≡ status_of (open_call variant bench.old link.old) }
+    ensures bench_after { bench.new ≡ opened_bench variant bench.old link.old }
+    ensures link_after { link.new ≡ opened_link variant bench.old link.old }
 {
-    let reply = after.reply;
-    match reply {
-        Reply::Done { number, total } => {
-            let next = after.bench;
-            let kept = after.link;
-            put_bench(next, bench);
-            put_link(kept, link);
-        }
-        Reply::Again { number, total } => {}
-        Reply::Refused(r) => {}
+    if katan_variants::bad_variant(variant) {
+        return Err(Refusal::BadVariant);
     }
+    if bench.len() != BENCH_LENGTH || link.len() != LINK_LENGTH {
+        return Err(Refusal::BadLength);
+    }
+    put_bench(bench_fresh::fresh_bench(variant), bench);
+    put_link(bench_fresh::fresh_link(), link);
+    Ok(())
 }
 
-// The bench that a preview shows is written over a copy of the one it was made from; where the record would not count, the copy is that already.
-fn put_preview(shown: PreviewResult, room: &mut [u8])
-    requires { length room.old ≡ bench_length }
-    ensures { room.new ≡ if_counted (reply_answer shown.reply) (bench_bytes shown.bench room.old) room.old }
+// What an arrival leaves, and its answer, where bench and lent memory are sound and the record is not refused. Bench and link are written only by an
+// arrival that counts.
+#[tactic(auto, unfolding(crate::specs::Calls::arrive_call))]
+fn put_arrival(
+    bench: &mut [u8],
+    link: &mut [u8],
+    sent: &[u8],
+    answer: &mut [u32],
+) -> Result<(), Refusal>
+    ensures value { status_of (outcome result) ≡ status_of (arrive_call bench.old link.old sent.now answer.old) }
+    ensures bench_after { bench.new ≡ arrived_bench bench.old link.old sent.now answer.old }
+    ensures link_after { link.new ≡ arrived_link bench.old link.old sent.now answer.old }
+    ensures answer_after { answer.new ≡ arrived_answer bench.old link.old sent.now answer.old }
 {
-    let reply = shown.reply;
-    match reply {
-        Reply::Done { number, total } => {
-            let next = shown.bench;
-            put_bench(next, room);
-        }
-        Reply::Again { number, total } => {}
-        Reply::Refused(r) => {}
+    if bench.len() != BENCH_LENGTH {
+        return Err(Refusal::BadLength);
     }
+    let found = bench_in(bench);
+    if bench_checks::bad_bench(found) {
+        return Err(Refusal::BadVariant);
+    }
+    if link.len() != LINK_LENGTH || answer.len() != ARRIVAL_WORDS {
+        return Err(Refusal::BadLength);
+    }
+    let after = bench_stepping::arrive_once(found, link_in(link), sent);
+    let reply = after.reply?;
+    if let Reply::Done { .. } = reply {
+        put_bench(after.bench, bench);
+        put_link(after.link, link);
+    }
+    answer.copy_from_slice(&reply_words(reply));
+    Ok(())
+}
+
+// What a preview shows, and its answer. The bench that it shows is written over a copy of the one it was made from; where the record would not count, the
+// copy is that already. With all lengths right check 1 is the preview's own.
+#[tactic(auto, using(crate::proofs::Held::found_by_itself), unfolding(crate::specs::Calls::preview_call, crate::specs::Calls::arrive_call, bench::specs::Preview::preview_of))]
+fn put_preview(
+    bench: &[u8],
+    link: &[u8],
+    sent: &[u8],
+    answer: &mut [u32],
+    room: &mut [u8],
+) -> Result<(), Refusal>
+    ensures value { status_of (outcome result) ≡ status_of (preview_call bench.now link.now sent.now answer.old room.old) }
+    ensures answer_after { answer.new ≡ previewed_answer bench.now link.now sent.now answer.old room.old }
+    ensures room_after { room.new ≡ previewed_room bench.now link.now sent.now answer.old room.old }
+{
+    if bench.len() != BENCH_LENGTH {
+        return Err(Refusal::BadLength);
+    }
+    put_copy(bench, room);
+    let found = bench_in(bench);
+    if link.len() != LINK_LENGTH || answer.len() != ARRIVAL_WORDS || room.len() != BENCH_LENGTH {
+        return Err(bench_or_length(found));
+    }
+    let shown = bench_stepping::preview(found, link_in(link), sent);
+    let reply = shown.reply?;
+    if let Reply::Done { .. } = reply {
+        put_bench(shown.bench, room);
+    }
+    answer.copy_from_slice(&reply_words(reply));
+    Ok(())
 }
 
 // Opens a fresh bench with its fresh link. A lane's bytes but for its state are kept.
@@ -96,18 +119,7 @@ pub fn open(variant: u8, bench: &mut [u8], link: &mut [u8]) -> u8
         × (bench.new ≡ opened_bench variant bench.old link.old)
         × (link.new ≡ opened_link variant bench.old link.old) }
 {
-    if katan_variants::bad_variant(variant) {
-        return refusal_number(Refusal::BadVariant);
-    }
-    if bench.len() != BENCH_LENGTH {
-        return refusal_number(Refusal::BadLength);
-    }
-    if link.len() != LINK_LENGTH {
-        return refusal_number(Refusal::BadLength);
-    }
-    put_bench(bench_fresh::fresh_bench(variant), bench);
-    put_link(bench_fresh::fresh_link(), link);
-    ACCEPTED
+    status(put_opened(variant, bench, link))
 }
 
 // A record of any bytes and length arrives.
@@ -117,48 +129,15 @@ pub fn arrive(bench: &mut [u8], link: &mut [u8], sent: &[u8], answer: &mut [u32]
         × (link.new ≡ arrived_link bench.old link.old sent.now answer.old)
         × (answer.new ≡ arrived_answer bench.old link.old sent.now answer.old) }
 {
-    if bench.len() != BENCH_LENGTH {
-        return refusal_number(Refusal::BadLength);
-    }
-    let found = bench_in(bench);
-    if bench_checks::bad_bench(found) {
-        return refusal_number(Refusal::BadVariant);
-    }
-    if link.len() != LINK_LENGTH {
-        return refusal_number(Refusal::BadLength);
-    }
-    if answer.len() != ARRIVAL_WORDS {
-        return refusal_number(Refusal::BadLength);
-    }
-    let after = bench_stepping::arrive_once(found, link_in(link), sent);
-    let reply = after.reply;
-    put_arrival(after, bench, link);
-    put_reply(reply, answer)
+    status(put_arrival(bench, link, sent, answer))
 }
 
 // What a record would be answered, and, in the room, the memory of the bench that it would leave, on a refusal the bench's own; where bench or room has
-// another length the room is left alone. With all lengths right check 1 is the preview's own.
+// another length the room is left alone.
 pub fn preview(bench: &[u8], link: &[u8], sent: &[u8], answer: &mut [u32], room: &mut [u8]) -> u8
     ensures { (result ≡ status_of (preview_call bench.now link.now sent.now answer.old room.old))
         × (answer.new ≡ previewed_answer bench.now link.now sent.now answer.old room.old)
         × (room.new ≡ previewed_room bench.now link.now sent.now answer.old room.old) }
 {
-    if bench.len() != BENCH_LENGTH {
-        return refusal_number(Refusal::BadLength);
-    }
-    put_copy(bench, room);
-    let found = bench_in(bench);
-    if link.len() != LINK_LENGTH {
-        return refusal_number(bench_or_length(found));
-    }
-    if answer.len() != ARRIVAL_WORDS {
-        return refusal_number(bench_or_length(found));
-    }
-    if room.len() != BENCH_LENGTH {
-        return refusal_number(bench_or_length(found));
-    }
-    let shown = bench_stepping::preview(found, link_in(link), sent);
-    let reply = shown.reply;
-    put_preview(shown, room);
-    put_reply(reply, answer)
+    status(put_preview(bench, link, sent, answer, room))
 }
