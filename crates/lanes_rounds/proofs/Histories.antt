@@ -177,10 +177,6 @@ module _ {v : Row} (s : Sound v) {irs keys : List ℕ} {p q t : ℕ} (h : p ≤ 
       }
 
 -- the same between equal positions
-pub forward_as : {v : Row} {irs keys a b a' b' : List ℕ} (p q t u : ℕ) → p ≡ t → q ≡ u → Forward v irs keys p q a b a' b' → Forward v irs keys t u a b a' b'
-forward_as {v} {irs} {keys} {a} {b} {a'} {b'} p q t u d e h =
-    subst (λ (x : ℕ). Forward v irs keys x u a b a' b') d (subst (λ (y : ℕ). Forward v irs keys p y a b a' b') e h)
-
 pub backward_as : {v : Row} {irs keys a b a' b' : List ℕ} (p q t u : ℕ) → p ≡ t → q ≡ u → Backward v irs keys p q a b a' b' → Backward v irs keys t u a b a' b'
 backward_as {v} {irs} {keys} {a} {b} {a'} {b'} p q t u d e h =
     subst (λ (x : ℕ). Backward v irs keys x u a b a' b') d (subst (λ (y : ℕ). Backward v irs keys p y a b a' b') e h)

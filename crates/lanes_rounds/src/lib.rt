@@ -23,9 +23,9 @@ fn load(words: &[u64; WORD_BITS], at: usize, len: usize, l: &mut [u64], top: usi
     ensures l_len_unchanged { length l.new ≡ length l.old }
     ensures by_index { (i : ℕ) → i < len → get_or l.new (top - i) 0 ≡ get_or words.now (at + i) 0 }
 {
-    for i in 0..len {
-        l[top - i] = words[at + i];
-    }
+    let part = &mut l[top + 1 - len..top + 1];
+    part.copy_from_slice(&words[at..at + len]);
+    part.reverse();
 }
 
 // The words with `len` more, from words[at] on, that stand in a buffer from `top` down.
@@ -41,9 +41,9 @@ fn unloaded(
     ensures by_index_2 { ((i : ℕ) → i < at → get_or result i 0 ≡ get_or words i 0) × ((i : ℕ) → at + len ≤ i → get_or result i 0 ≡ get_or words i 0) }
 {
     let mut w = words;
-    for i in 0..len {
-        w[at + i] = l[top - i];
-    }
+    let part = &mut w[at..at + len];
+    part.copy_from_slice(&l[top + 1 - len..top + 1]);
+    part.reverse();
     w
 }
 
