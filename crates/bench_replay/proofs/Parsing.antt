@@ -6,10 +6,8 @@ use mathlib.Core.List.{List, [], ◌∷◌}
 use Prim.Native.Nat.{ℕ, zero, suc, ◌+◌, ◌-◌, ◌*◌, ◌<◌, ◌≤◌}
 use native.Mathlib.Omega.{arith}
 use lib.Dec.{eqb, leb}
-use lib.ListN.{length, get_or, take, drop, length-drop}
-use lib.Seq.{take_all}
+use lib.ListN.{length, get_or, drop}
 use borrow.Author.Tests.{leb-true, eqb-true, eqb-false, le-leb, lt-leb, eq-eqb, ne_eqb}
-use Rattle.katan.specs.Bit.{pick}
 use Rattle.katan.proofs.Booleans.{and_false, both}
 use Rattle.bench_replay.specs.Encoding.{head_length, is_arrival, is_read, call_number, call_size, is_call, starts_after, starts, all, answer_length, fits}
 
@@ -50,33 +48,6 @@ module _ (s : List ℕ) where
   unfolding is_call
   call_within e = leb-true (call_size s) (length s) (both (is_arrival s || is_read s) (leb (call_size s) (length s)) e).1
 
-  -- what the code's size says: 0 where there is no whole call
-  abbrev size_or : Bool → ℕ
-  size_or b = pick b (call_size s) 0
-
-  zero_none : (b : Bool) → size_or b ≡ 0 → b ≡ false
-  zero_none true e = absurd (omega (arith, e, head_within))
-  zero_none false e = refl
-
-  other_some : (b : Bool) → (size_or b ≡ 0 → ⊥) → b ≡ true
-  other_some true n = refl
-  other_some false n = absurd (n refl)
-
-  pub no_size : is_call s ≡ false → 0 ≡ pick (is_call s) (call_size s) 0
-  no_size e = sym (ap size_or e)
-
-  pub its_size : {n : ℕ} → n ≡ call_size s → is_call s ≡ true → n ≡ pick (is_call s) (call_size s) 0
-  its_size n e = n ∙ sym (ap size_or e)
-
-  pub size_none : {n : ℕ} → n ≡ pick (is_call s) (call_size s) 0 → n ≡ 0 → is_call s ≡ false
-  size_none e z = zero_none (is_call s) (sym e ∙ z)
-
-  pub size_some : {n : ℕ} → n ≡ pick (is_call s) (call_size s) 0 → (n ≡ 0 → ⊥) → is_call s ≡ true
-  size_some e z = other_some (is_call s) (λ d. z (e ∙ d))
-
-  pub size_is : {n : ℕ} → n ≡ pick (is_call s) (call_size s) 0 → is_call s ≡ true → n ≡ call_size s
-  size_is e t = e ∙ ap size_or t
-
 -- ---- the calls after the first
 
 starts_drop : (n : ℕ) (s : List ℕ) → starts_after n s ≡ starts_after 0 (drop n s)
@@ -95,10 +66,6 @@ starts_on (x ∷ s) h =
     let n = call_size (x ∷ s) in
     let e : n ≡ suc (n - 1) = omega (arith, head_within (x ∷ s)) in
     ap (λ (l : List (List ℕ)). (x ∷ s) ∷ l) (starts_drop (n - 1) s ∙ ap (starts_after 0) (drop_size (n - 1) n x s e))
-
--- the bytes after the first call, as the code takes them
-pub after_first : (s : List ℕ) {n : ℕ} → n ≡ call_size s → take (length s - n) (drop n s) ≡ drop (call_size s) s
-after_first s {n} e = take_all (length s - n) (drop n s) (omega (arith, length-drop n s)) ∙ ap (λ (m : ℕ). drop m s) e
 
 -- ---- room for the answers
 
@@ -149,3 +116,8 @@ fits_end (x ∷ s) room h = absurd (omega arith)
 
 pub end_room : (s : List ℕ) (room : ℕ) → length s ≤ 0 → fits s room ≡ true → room ≡ 0
 end_room s room h e = eqb-true room 0 (sym (fits_end s room h) ∙ e)
+
+-- where no whole call comes first, a list that fits has ended
+pub no_more : (s : List ℕ) (room : ℕ) → is_call s ≡ false → fits s room ≡ true → length s ≤ 0
+no_more [] room n e = omega arith
+no_more (x ∷ s) room n e = let z = sym (fits_whole (x ∷ s) room (omega arith) e) ∙ n in cc

@@ -1,38 +1,39 @@
 // The calls in a list of bytes.
-ghost use Rattle.std.specs.Prelude.{◌≡◌, ◌≤◌, length};
-ghost use Rattle.katan.specs.Bit.{pick};
-ghost use Rattle.bench_replay.specs.Encoding.{head_length, call_number, call_size, is_call, fits as fits_in};
+ghost use Rattle.std.specs.Prelude.{◌≡◌, ◌≤◌, false, length, MatchOption};
+ghost use Rattle.bench_replay.specs.Encoding.{head_length, call_number, is_call, fits as fits_in};
+ghost use Rattle.bench_replay.specs.inner.Steps.{call_view, IsFirst};
 
 use crate::{ANSWER_LENGTH, ARRIVAL, HEAD_LENGTH, READ};
 
+// A record that arrives, or the number of a lane that is read.
+#[derive(Clone, Copy)]
+pub enum Call<'a> {
+    Arrival(&'a [u8]),
+    Read(usize),
+}
+
 // The length of an arrival's record, or the lane of a read.
-pub fn number_of(call: &[u8]) -> usize
+fn number_of(call: &[u8]) -> usize
     requires { head_length ≤ length call.now }
     ensures { result ≡ call_number call.now }
 {
     katan_numbers::word_of(&call[1..HEAD_LENGTH]) as usize
 }
 
-// The bytes that the first call takes; 0 where no whole call comes first.
-pub fn size_of(bytes: &[u8]) -> usize
-    ensures { result ≡ pick (is_call bytes.now) (call_size bytes.now) 0 }
+// The first call of the bytes and the bytes after it, or none where no whole call comes first.
+pub fn next_call(bytes: &[u8]) -> Option<(Call<'_>, &[u8])>
+    ensures { MatchOption result (is_call bytes.now ≡ false) (λ p. IsFirst bytes.now (call_view p.0) p.1.now) }
 {
-    let len = bytes.len();
-    if len < HEAD_LENGTH {
-        return 0;
-    }
-    let kind = bytes[0];
-    if kind == READ {
-        return HEAD_LENGTH;
-    }
-    if kind != ARRIVAL {
-        return 0;
-    }
+    let (_, rest) = bytes.split_at_checked(HEAD_LENGTH)?;
     let number = number_of(bytes);
-    if len - HEAD_LENGTH < number {
-        return 0;
+    match bytes[0] {
+        ARRIVAL => {
+            let (sent, after) = rest.split_at_checked(number)?;
+            Some((Call::Arrival(sent), after))
+        }
+        READ => Some((Call::Read(number), rest)),
+        _ => None,
     }
-    HEAD_LENGTH + number
 }
 
 // Whether the bytes are whole calls to their end, and there is room for exactly their answers.
@@ -41,16 +42,12 @@ pub fn fits(bytes: &[u8], room: usize) -> bool
 {
     let mut rest = bytes;
     let mut left = room;
-    while rest.len() > 0 {
-        let size = size_of(rest);
-        if size == 0 {
-            return false;
-        }
+    while let Some((_, after)) = next_call(rest) {
         if left < ANSWER_LENGTH {
             return false;
         }
         left -= ANSWER_LENGTH;
-        rest = &rest[size..];
+        rest = after;
     }
-    left == 0
+    rest.is_empty() && left == 0
 }

@@ -2,12 +2,12 @@
 ghost use Rattle.std.specs.Prelude.{◌≡◌, true, length};
 ghost use Rattle.bench.specs.Calls.{state_after, answers_to};
 ghost use Rattle.bench.specs.Bench.{bench_transition, reply_answer};
-ghost use Rattle.bench_replay.specs.Encoding.{is_call, first_call, calls_in, answer_bytes, answers_bytes, fits};
-ghost use Rattle.bench_replay.specs.inner.Steps.{state_of, field_bytes};
+ghost use Rattle.bench_replay.specs.Encoding.{calls_in, answer_bytes, answers_bytes, fits};
+ghost use Rattle.bench_replay.specs.inner.Steps.{call_view, state_of, field_bytes};
 
+use crate::ANSWER_LENGTH;
 use crate::answers::{Fields, read_fields, reply_fields, write};
-use crate::calls::{number_of, size_of};
-use crate::{ANSWER_LENGTH, ARRIVAL, HEAD_LENGTH};
+use crate::calls::{Call, next_call};
 use bench::{ArrivalResult, Bench, Link};
 
 // What a call leaves, and its answer.
@@ -28,23 +28,18 @@ fn arrived(after: ArrivalResult) -> AfterCall
     }
 }
 
-// The first call of the bytes, on the bench and link that it finds.
-fn transition(bench: Bench, link: Link, call: &[u8]) -> AfterCall
-    requires { is_call call.now ≡ true }
-    ensures { (state_of result.bench result.link ≡ (bench_transition (state_of bench link) (first_call call.now)).0)
-        × (field_bytes result.answer ≡ answer_bytes (bench_transition (state_of bench link) (first_call call.now)).1) }
+// A call, on the bench and link that it finds.
+fn transition(bench: Bench, link: Link, call: Call<'_>) -> AfterCall
+    ensures { (state_of result.bench result.link ≡ (bench_transition (state_of bench link) (call_view call.entry)).0)
+        × (field_bytes result.answer ≡ answer_bytes (bench_transition (state_of bench link) (call_view call.entry)).1) }
 {
-    let number = number_of(call);
-    let kind = call[0];
-    if kind == ARRIVAL {
-        let end = HEAD_LENGTH + number;
-        let sent = &call[HEAD_LENGTH..end];
-        return arrived(bench_stepping::arrive_once(bench, link, sent));
-    }
-    AfterCall {
-        bench,
-        link,
-        answer: read_fields(bench_stepping::read(bench, number)),
+    match call {
+        Call::Arrival(sent) => arrived(bench_stepping::arrive_once(bench, link, sent)),
+        Call::Read(lane) => AfterCall {
+            bench,
+            link,
+            answer: read_fields(bench_stepping::read(bench, lane)),
+        },
     }
 }
 
@@ -57,15 +52,13 @@ pub fn run(bench: Bench, link: Link, calls: &[u8], out: &mut [u8]) -> Bench
     let mut link = link;
     let mut rest = calls;
     let mut to: usize = 0;
-    while rest.len() > 0 {
-        let next = transition(bench, link, rest);
+    while let Some((call, after)) = next_call(rest) {
+        let next = transition(bench, link, call);
         bench = next.bench;
         link = next.link;
-        let answer = next.answer;
-        write(answer, to, out);
+        write(next.answer, to, out);
         to += ANSWER_LENGTH;
-        let size = size_of(rest);
-        rest = &rest[size..];
+        rest = after;
     }
     bench
 }
