@@ -1,6 +1,8 @@
 -- THEOREMS: a driver's memory is opened as the fresh bench and link, its arrivals, reads and previews are those of a list, and a screen is of the bench
 -- that it says.
 -- Assumes nothing.
+use Rattle.std.proofs.Common.{Option, None}
+use Rattle.bench.specs.declared.Loaded.{Loaded}
 use mathlib.Core.Path.{◌≡◌, refl, sym, ap, ◌∙◌}
 use mathlib.Core.Bool.{Bool, true, false, not}
 use mathlib.Core.List.{List, [], ◌∷◌}
@@ -17,7 +19,7 @@ use Rattle.katan.proofs.Variants.{variant_sound}
 use Rattle.bench.specs.Calls.{Answer}
 use Rattle.bench_record.specs.Checks.{lane_check}
 use Rattle.bench.specs.Checks.{empty_lane, empty_check, read_checks, Turn, counts, repeats, decision, lane_answer, read_outcome}
-use Rattle.bench.specs.Bench.{empty_slot, fresh_bench, fresh_link, lanes_of, bench_view, held_check, counted_effect, effect_as, arrive_of, read_of}
+use Rattle.bench.specs.Bench.{fresh_bench, fresh_link, lanes_of, bench_view, held_check, counted_effect, effect_as, arrive_of, read_of}
 use Rattle.driver_layout.specs.Layout.{bench_length, link_length, bench_in, link_in, bench_bytes, link_bytes}
 use Rattle.driver_reads.specs.Calls.{read_call}
 use Rattle.driver_bench.specs.Calls.{open_call, opened_bench, opened_link, arrival_words, if_counted, arrive_effect, arrive_checks, arrive_call, preview_call}
@@ -31,12 +33,12 @@ use Rattle.driver_memory.proofs.Fits.{effect_fits}
 
 -- ---- opening
 
-fresh_lanes : (n : ℕ) → SlotsFit (replicate n empty_slot)
+fresh_lanes : (n : ℕ) → SlotsFit (replicate n None)
 fresh_lanes zero = tt
 fresh_lanes (suc n) = (tt, fresh_lanes n)
 
 pub fresh_bench_fits : (v : ℕ) → BenchFits (fresh_bench v)
-fresh_bench_fits v = record { all_lanes = length-replicate lane_count empty_slot; lanes_fit = fresh_lanes lane_count }
+fresh_bench_fits v = record { all_lanes = length-replicate {0} {A = Option Loaded} lane_count None; lanes_fit = fresh_lanes lane_count }
 
 pub fresh_link_fits : LinkFits fresh_link
 fresh_link_fits = record { last_fits = omega arith; total_fits = omega arith; whole_record = refl }

@@ -1,5 +1,6 @@
 -- Demand 3 in a driver's own memory: each call is a list's call or preview on the state that the memory says.
 -- Assumes nothing.
+use Rattle.std.proofs.Common.{None}
 use mathlib.Core.Path.{◌≡◌, refl, ap, ap₂, ◌∙◌}
 use mathlib.Core.List.{List, [], ◌∷◌, map, zip_with}
 use Prim.Native.Nat.{ℕ, ◌≤◌}
@@ -10,7 +11,7 @@ use Rattle.bench.specs.declared.Bench.{Bench}
 use Rattle.bench.specs.declared.Link.{Link}
 use Rattle.bench.specs.Calls.{done, again, at, Answer, state_after, answers_to}
 use Rattle.bench.specs.Checks.{LaneView}
-use Rattle.bench.specs.Bench.{fresh_bench, fresh_link, empty_slot, slot_view, lanes_of, State, fresh_state, bench_transition}
+use Rattle.bench.specs.Bench.{fresh_bench, fresh_link, lane_view, lanes_of, State, fresh_state, bench_transition}
 use Rattle.bench.specs.Claim.{bench_after}
 use Rattle.bench.specs.Preview.{preview_of, EventAnswer, answered, previewed, bench_event, calls_of}
 use Rattle.bench.proofs.Preview.{every_list_with_previews}
@@ -177,7 +178,7 @@ every_list_in_memory v least most before n m calls w =
     let without = left_out calls (opened_memory v before) in
     record {
       same_returns = (run v least most before n m calls w).returns ∙ ap (returns_from calls) fresh ∙ ap (λ (xs : List EventAnswer). zip_with returned_as xs (map lent_for calls)) l.same_answers;
-      same_lanes = λ i lt. ap (λ (x : State). slot_view (get_or x.bench.slots i empty_slot)) (run_state v least most before n m calls w) ∙ l.without-previews.same_lanes i lt;
+      same_lanes = λ i lt. ap (λ (x : State). lane_view (get_or x.bench.slots i None)) (run_state v least most before n m calls w) ∙ l.without-previews.same_lanes i lt;
       same_calls = without.0;
       same_memory = without.1;
     }

@@ -2,7 +2,7 @@
 -- left, with previews anywhere among them. Every status, every word of an answer and every lane that a preview shows is the reference model's, and the
 -- lanes in memory are its machines; so are those that a screen then shows.
 -- Assumes nothing.
-use Rattle.std.specs.Prelude.{ℕ, ◌<◌, ◌≤◌, ◌≡◌, length, get_or}
+use Rattle.std.specs.Prelude.{None, ℕ, ◌<◌, ◌≤◌, ◌≡◌, length, get_or}
 use mathlib.Core.List.{List, [], ◌∷◌, map, zip_with}
 use Rattle.katan.specs.Bit.{AreBytes}
 use Rattle.katan.specs.Lent.{status_of, lent_after}
@@ -10,7 +10,7 @@ use Rattle.katan.specs.Sizes.{lane_count}
 use Rattle.bench.specs.Calls.{arrival, reading, state_after, answers_to}
 use Rattle.bench.specs.Checks.{LaneView}
 use Rattle.bench.specs.Model.{machine_view}
-use Rattle.bench.specs.Bench.{empty_slot, slot_view, lanes_of}
+use Rattle.bench.specs.Bench.{lane_view, lanes_of}
 use Rattle.bench.specs.Claim.{bench_after, machine_after}
 use Rattle.bench.specs.Preview.{Event, call, preview as preview_event, EventAnswer, answered, previewed, calls_of, model_event_answers}
 use Rattle.bench_screen.specs.Screen.{screen_answer, screen_numbers}
@@ -104,7 +104,7 @@ returned_as (previewed a lanes) old = shown (status_of a) (lent_after response_w
 
 -- lane i as memory says it
 abbrev pub lane_in_memory : Memory → ℕ → LaneView
-lane_in_memory m i = slot_view (get_or (bench_in m.bench).slots i empty_slot)
+lane_in_memory m i = lane_view (get_or (bench_in m.bench).slots i None)
 
 module _ (v : ℕ) (before : Memory) (calls : List DriverCall) where
   -- after opening and a list of calls, from memory that held anything before
