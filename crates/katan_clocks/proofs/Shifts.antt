@@ -2,7 +2,7 @@
 -- Assumes nothing.
 use mathlib.Core.Path.{◌≡◌, sym, ap, subst, ◌∙◌}
 use Prim.Native.Nat.{ℕ, ◌+◌, ◌-◌, ◌*◌, ◌/◌, ◌%◌, ◌^◌, ◌<◌, ◌≤◌}
-use native.Mathlib.Nat.{mod-lt, lt_of_lt_of_le, mul-le-mul_right, one-mul}
+use native.Mathlib.Nat.{mod-lt, lt_of_lt_of_le}
 use native.Mathlib.Omega.{arith}
 use lib.Pow.{pow_pos, pow_mono, low, mod-mod-pow, shl_exact, shl_lt, shr_lt}
 use Rattle.katan.proofs.Bits.{one_shifted, raised, lifted, joined_lt}
@@ -46,14 +46,3 @@ module _ (n c t : ℕ) (h : n < 64) (q : c ≤ n) where
       let rest : l / 2 ^ c < 2 ^ 63
       = lt_of_lt_of_le (shr_lt (64 - c) c (subst (λ (m : ℕ). l < 2 ^ m) parts f)) (pow_mono {i = 64 - c} {j = 63} (omega arith)) in
       omega (arith, highest, top, half, rest)
-
--- a bit in each of c places
-module _ (c : ℕ) (h : c < 64) where
-  pub some_ones : 1 ≤ (1 * 2 ^ c) % 2 ^ 64
-  some_ones = rw (one_shifted c h) (pow_pos c)
-
-  pub bit_in_each : (x : ℕ) → x % 2 * ((1 * 2 ^ c) % 2 ^ 64 - 1) < 2 ^ 64
-  bit_in_each x =
-      let small : x % 2 ≤ 1 = omega arith in
-      let within : 2 ^ c ≤ 2 ^ 63 = pow_mono {i = c} {j = 63} (omega arith) in
-      rw (one_shifted c h) (omega (arith, mul-le-mul_right (2 ^ c - 1) small, one-mul (2 ^ c - 1), within))

@@ -1,4 +1,3 @@
 pub mod Running
 pub mod Words
 pub mod InWords
-pub mod Sources

@@ -34,7 +34,7 @@ use Rattle.katan_clocks.specs.Clocks.{lowest, clocks_by, unclocks_by}
 use Rattle.katan_clocks.specs.inner.Words.{beside, words_of}
 use Rattle.katan_clocks.proofs.Rounds.{inputs, same_input, rounds_by_words, unrounds_by_words}
 use Rattle.katan_registers.specs.declared.rounds.Running.{Running}
-use Rattle.katan_registers.specs.inner.Tables.{KeyBits, table_input, key_bit, rounds_input}
+use Rattle.katan_registers.specs.inner.Tables.{KeyBits, table_input, rounds_input}
 use Rattle.katan_registers.specs.inner.Moves.{Moves, MovesBack}
 
 -- ---- registers stay within their lengths
@@ -142,8 +142,12 @@ module _ (counters numbers : List ℕ) (cs : counters ≡ tabulate counter 0 rou
 
 -- ---- a word of some rounds' bits, as the code has it
 
+-- a stride has four rounds or fewer, and a round three clocks or fewer
 pub stride_few : (v : Row) → IsRow v → stride_of v ≤ 4
 stride_few = by_row (λ v. stride_of v ≤ 4) (omega arith) (omega arith) (omega arith)
+
+pub clocks_few : (v : Row) → IsRow v → (r : Row) → r ≡ v → r.clocks ≤ 3
+clocks_few v k r e = subst (λ (x : Row). x.clocks ≤ 3) (sym e) (by_row (λ x. x.clocks ≤ 3) (omega arith) (omega arith) (omega arith) v k)
 
 -- numbers of a byte, c of 3 or less: nothing leaves the word
 module _ (c a j x : ℕ) (few : c ≤ 3) (h : a < 2 ^ (8 + 4 * j)) (q : x < 2 ^ 8) where
@@ -179,17 +183,6 @@ module _ (c a : ℕ) (few : c ≤ 3) (h : a < 2 ^ 24) where
       let seven : 2 ^ c - 1 ≤ 7 = omega (arith, eight) in
       rw filled (omega (arith, mul-le-mul_left a seven))
 
--- the key bits by the kind of variant
-module _ (v : ℕ) (numbers bits : List ℕ) (r w i c n : ℕ) where
-  abbrev chosen : Bool → ℕ
-  chosen b = beside c (λ j. pick b (bit w (i + 2 * j)) (get_or bits (get_or numbers (2 * r + i + 2 * j) 0) 0)) n * (2 ^ c - 1)
-
-  pub of_window : is_katan v ≡ true → beside c (λ j. bit w (i + 2 * j)) n * (2 ^ c - 1) ≡ beside c (key_bit v numbers bits r w i) n * (2 ^ c - 1)
-  of_window e = ap chosen (sym e)
-
-  pub of_table : is_katan v ≡ false → beside c (λ j. get_or bits (get_or numbers (2 * r + i + 2 * j) 0) 0) n * (2 ^ c - 1) ≡ beside c (key_bit v numbers bits r w i) n * (2 ^ c - 1)
-  of_table e = ap chosen (sym e)
-
 -- ---- moves
 
 -- the source moves along
@@ -209,9 +202,6 @@ module _ (v key p c w : ℕ) (few : c ≤ longest_step) where
       by_kind false = refl
 
 module _ (v key p : ℕ) where
-  pub moves_none : (h : Running) → Moves v key p 0 h h
-  moves_none h e = (refl, e ∙ ap (source_at v key) (omega arith))
-
   pub moves_more : (a b : ℕ) (h t u : Running) → Moves v key p a h t → Moves v key (p + a) b t u → Moves v key p (a + b) h u
   moves_more a b h t u f g e =
       let x = f e in
@@ -219,9 +209,6 @@ module _ (v key p : ℕ) where
         y.0 ∙ ap (run (row_of v) (input_of v key) (p + a) b) x.0 ∙ sym (run_add (row_of v) (input_of v key) p a b h.registers),
         y.1 ∙ ap (source_at v key) (add_assoc p a b),
       )
-
-  pub back_none : (h : Running) → MovesBack v key p 0 h h
-  back_none h e = (refl, e ∙ ap (source_at v key) (omega arith))
 
   pub back_more : (a b : ℕ) (h t u : Running) → MovesBack v key (p + a) b h t → MovesBack v key p a t u → MovesBack v key p (a + b) h u
   back_more a b h t u f g e =

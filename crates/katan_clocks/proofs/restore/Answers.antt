@@ -1,12 +1,6 @@
-use native.Mathlib.Omega.{arith}
-use lib.Pow.{pow_pos}
-use Rattle.katan.proofs.Bits.{one_shifted}
 use Rattle.katan_clocks.proofs.Shifts.{restored_fits, restored}
 use borrow.Author.Rules.{rules}
 use Rattle.katan_clocks.proofs.restore.Goals as goal
-
-pub nonzero_rem-result : goal.nonzero_rem-result
-nonzero_rem-result c = rw (one_shifted c.args.c (omega arith)) (pow_pos c.args.c)
 
 pub overflow_add-result : goal.overflow_add-result
 overflow_add-result c = record { fits = restored_fits c.args.n c.args.c c.args.t c.requires.0 c.requires.2 c.args.l (search rules) c.requires.1 }

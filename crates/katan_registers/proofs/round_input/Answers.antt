@@ -1,18 +1,13 @@
 use mathlib.Core.Path.{◌≡◌, ap, ◌∙◌}
-use Prim.Native.Nat.{ℕ, ◌<◌, ◌≤◌}
+use Prim.Native.Nat.{ℕ, ◌<◌}
 use native.Mathlib.Omega.{arith}
-use borrow.Author.Tests.{lt-ltb, le-ltb}
+use borrow.Author.Tests.{lt-ltb}
 use Rattle.katan.specs.Counter.{rounds}
 use Rattle.katan.specs.Key.{key_number}
 use Rattle.katan_keys.specs.Window.{window_number}
 use Rattle.katan_registers.specs.inner.Tables.{table_input}
 use Rattle.katan_registers.proofs.Laws.{table-input}
 use Rattle.katan_registers.proofs.round_input.Goals as goal
-
-pub returns-then-r-ge-ROUND_COUNT : goal.returns-then-r-ge-ROUND_COUNT
-returns-then-r-ge-ROUND_COUNT c =
-    let late : rounds ≤ c.args.at.0 = omega (arith, c.from-r.ensures) in
-    rw (le-ltb c.args.at.0 rounds late)
 
 pub returns : goal.returns
 returns c =
