@@ -17,12 +17,14 @@ use Rattle.script_interpreter.specs.Session.{session_line, result_of}
 use Rattle.script_interpreter.specs.declared.LineResult.{LineResult}
 use Rattle.script.specs.Pieces.{kept, emptied, line_in, on_line_feed, Taken, nothing_taken, taken_after, on_piece, answered_as, written_to}
 use Rattle.script.specs.inner.Kept.{kept_all, line_end}
-use Rattle.script.specs.inner.Steps.{not_ended, line_of, step_taken, Steps}
+use Rattle.script.specs.inner.Steps.{not_ended, line_of, taken_with, step_taken, Fits, Steps}
+use Rattle.std.specs.Prelude.{Option, Some, None}
+use Rattle.script_answers.specs.declared.Printed.{Printed}
 use Rattle.script.specs.declared.Pending.{Pending}
 use Rattle.script.specs.declared.Script.{Script}
 use Rattle.script.specs.declared.Step.{Step}
 use Rattle.script.specs.declared.Answered.{Answered}
-use Rattle.script.proofs.Begun.{holding, byte_feed, byte_more}
+use Rattle.script.proofs.Begun.{end_within, holding, byte_feed, byte_more}
 use Rattle.script.proofs.Room.{line_fits}
 use Rattle.script.proofs.Taken.{byte_taken, byte_left}
 
@@ -100,13 +102,13 @@ module _ (space : ℕ) (x : Script) (piece : List ℕ) where
         ∙ ap (λ (n : ℕ). taken_after (end + 1) (on_line_feed more).1 (on_piece (space - length (on_line_feed more).1) (on_line_feed more).0 (drop n piece))) (sym (add-one end))
 
   stops : end ≤ length piece → on_piece space x piece ≡ stopped → Steps space x piece (not_ended x.session line end)
-  stops h e = record { whole = e; within = h; some = omega arith; sized = omega arith; fits = omega arith }
+  stops h e = record { whole = e; within = h; fits = tt }
 
 -- the code's step
 abbrev pub line_step : Pending → (end : ℕ) → LineResult → Step
-line_step p end t = record { script = record { session = t.session; pending = emptied p }; used = end + 1; printed = t.printed; is_line = true }
+line_step p end t = record { script = record { session = t.session; pending = emptied p }; used = end + 1; printed = Some t.printed }
 
-module _ (space : ℕ) (x : Script) (piece : List ℕ) (n : ℕ) (p : Pending) (e : n ≡ line_end piece) (within : n ≤ length piece) (k : p ≡ kept_all x.pending (take n piece)) where
+module _ (space : ℕ) (x : Script) (piece : List ℕ) (n : ℕ) (p : Pending) (e : n ≡ line_end piece) (k : p ≡ kept_all x.pending (take n piece)) where
   same_line : p ≡ line space x piece
   same_line = k ∙ ap (λ (m : ℕ). kept_all x.pending (take m piece)) e
 
@@ -114,7 +116,7 @@ module _ (space : ℕ) (x : Script) (piece : List ℕ) (n : ℕ) (p : Pending) (
   printed q = result_of (session_line x.session (line_in q))
 
   stops_here : on_piece space x piece ≡ stopped space x piece → Steps space x piece (not_ended x.session p n)
-  stops_here w = subst⁻¹ (Steps space x piece) (ap₂ (not_ended x.session) same_line e) (stops space x piece (omega arith) w)
+  stops_here w = subst⁻¹ (Steps space x piece) (ap₂ (not_ended x.session) same_line e) (stops space x piece (end_within piece) w)
 
   pub step_none : n ≡ length piece → Steps space x piece (not_ended x.session p n)
   step_none h = stops_here (no_feed space x piece (sym e ∙ h))
@@ -127,7 +129,7 @@ module _ (space : ℕ) (x : Script) (piece : List ℕ) (n : ℕ) (p : Pending) (
     size = ap (λ (u : LineResult). u.printed.length) result
 
     pub step_full : space < t.printed.length → Steps space x piece (not_ended x.session p n)
-    step_full g = stops_here (no_space space x piece (omega arith) (omega (arith, size)))
+    step_full g = stops_here (no_space space x piece (omega (arith, end_within piece)) (omega (arith, size)))
 
     pub step_line : t.printed.length ≤ space → Steps space x piece (line_step p n t)
     step_line g =
@@ -137,12 +139,10 @@ module _ (space : ℕ) (x : Script) (piece : List ℕ) (n : ℕ) (p : Pending) (
         let canonical : Steps space x piece s =
         record {
           whole =
-              with_line space x piece (omega arith) fits
+              with_line space x piece (omega (arith, end_within piece)) fits
               ∙ ap (λ (l : List ℕ). taken_after (line_end piece + 1) l (on_piece (space - length o) s.script (drop (line_end piece + 1) piece))) (sym (take-append_seam o _));
-          within = omega arith;
-          some = omega arith;
-          sized = line_fits x.session (line_in (line space x piece));
-          fits = fits;
+          within = omega (arith, end_within piece);
+          fits = (omega arith, line_fits x.session (line_in (line space x piece)), fits);
         } in
         subst⁻¹ (Steps space x piece) (ap₂ (λ (q : Pending) (m : ℕ). line_step q m t) same_line e ∙ ap (line_step (line space x piece) (line_end piece)) result) canonical
 
@@ -196,43 +196,52 @@ module _ (piece start : List ℕ) (x : Script) (out : List ℕ) (now : Script) (
     pub step_within : used + s.used ≤ length piece
     step_within = omega (arith, t.within, simp length-drop at (ap length rest_whole), g.within)
 
-    pub step_space : count + s.printed.length ≤ length start
-    step_space = omega (arith, t.fits, g.has_space, g.same_length)
-
     step_whole : on_piece (length start) x piece ≡ taken_after used (take count out) (step_taken (length start - count) (drop used piece) s)
     step_whole =
         let w = subst (λ (l : List ℕ). on_piece (length out - count) now l ≡ step_taken (length out - count) l s) rest_whole t.whole in
         g.whole ∙ ap (taken_after used (take count out)) (subst (λ (n : ℕ). on_piece (n - count) now (drop used piece) ≡ step_taken (n - count) (drop used piece) s) g.same_length w)
 
-    pub going_stop : s.is_line ≡ false → Promised piece start x out s.script (used + s.used) count
+    pub going_stop : s.printed ≡ None → Promised piece start x out s.script (used + s.used) count
     going_stop f =
-        let w = rw f at step_whole in
+        let w = step_whole ∙ ap (λ (o : Option Printed). taken_after used (take count out) (taken_with (length start - count) (drop used piece) s.script s.used o)) f in
         keeps_promise piece start x out s.script (used + s.used) count g.has_space g.same_length g.untouched
         (w ∙ after_after used s.used (take count out) [] (nothing_taken s.script) ∙ ap (λ (l : List ℕ). taken_after (used + s.used) l (nothing_taken s.script)) (append-nil (take count out)))
 
-    pub going_on : s.is_line ≡ true → length s.printed.bytes ≡ room → (put : List ℕ) → put ≡ paste out count s.printed.bytes s.printed.length
-        → Going piece start x put s.script (used + s.used) (count + s.printed.length)
-    going_on f room_of put e =
-        let n = s.printed.length in
-        let bytes = s.printed.bytes in
-        let w = rw f at step_whole in
-        let in_out : count + n ≤ length out = omega (arith, step_space, g.same_length) in
-        let below : count ≤ length out = omega arith in
-        let sized : n ≤ length bytes = omega (arith, t.sized) in
-        let less : length start - count - n ≡ length start - (count + n) = omega arith in
-        record {
-          within = step_within;
-          has_space = step_space;
-          same_length = ap length e ∙ length-paste out count bytes n in_out sized ∙ g.same_length;
-          untouched =
-              ap (drop (count + n)) e
-              ∙ drop-paste out count bytes n below sized
-              ∙ sym (drop-drop n count out)
-              ∙ ap (drop n) g.untouched
-              ∙ drop-drop n count start;
-          whole =
-              w
-              ∙ after_after used s.used (take count out) (line_of s.printed) (on_piece (length start - count - n) s.script (drop s.used (drop used piece)))
-              ∙ ap₂ (λ (k : ℕ) (l : List ℕ). taken_after (used + s.used) (take count out ++ line_of s.printed) (on_piece k s.script l)) less (drop-drop s.used used piece)
-              ∙ ap (λ (l : List ℕ). taken_after (used + s.used) l (on_piece (length start - (count + n)) s.script (drop (used + s.used) piece))) (sym (ap (take (count + n)) e ∙ take-paste out count bytes n below sized));
-        }
+    module _ (p : Printed) (f : s.printed ≡ Some p) where
+      line_space : Fits (length out - count) s.used (Some p)
+      line_space = subst (Fits (length out - count) s.used) f t.fits
+
+      pub step_some : 1 ≤ s.used
+      step_some = line_space.0
+
+      pub step_room : p.length ≤ room
+      step_room = line_space.1
+
+      pub step_space : count + p.length ≤ length start
+      step_space = omega (arith, line_space.2, g.has_space, g.same_length)
+
+      pub going_on : length p.bytes ≡ room → (put : List ℕ) → put ≡ paste out count p.bytes p.length → Going piece start x put s.script (used + s.used) (count + p.length)
+      going_on room_of put e =
+          let n = p.length in
+          let bytes = p.bytes in
+          let w = step_whole ∙ ap (λ (o : Option Printed). taken_after used (take count out) (taken_with (length start - count) (drop used piece) s.script s.used o)) f in
+          let in_out : count + n ≤ length out = omega (arith, step_space, g.same_length) in
+          let below : count ≤ length out = omega arith in
+          let sized : n ≤ length bytes = omega (arith, step_room) in
+          let less : length start - count - n ≡ length start - (count + n) = omega arith in
+          record {
+            within = step_within;
+            has_space = step_space;
+            same_length = ap length e ∙ length-paste out count bytes n in_out sized ∙ g.same_length;
+            untouched =
+                ap (drop (count + n)) e
+                ∙ drop-paste out count bytes n below sized
+                ∙ sym (drop-drop n count out)
+                ∙ ap (drop n) g.untouched
+                ∙ drop-drop n count start;
+            whole =
+                w
+                ∙ after_after used s.used (take count out) (line_of p) (on_piece (length start - count - n) s.script (drop s.used (drop used piece)))
+                ∙ ap₂ (λ (k : ℕ) (l : List ℕ). taken_after (used + s.used) (take count out ++ line_of p) (on_piece k s.script l)) less (drop-drop s.used used piece)
+                ∙ ap (λ (l : List ℕ). taken_after (used + s.used) l (on_piece (length start - (count + n)) s.script (drop (used + s.used) piece))) (sym (ap (take (count + n)) e ∙ take-paste out count bytes n below sized));
+          }

@@ -1,14 +1,14 @@
 // The script: its lines, over an input that comes in pieces.
 #![tactic(auto)]
 
-ghost use Rattle.std.specs.Prelude.{◌≡◌, ◌+◌, ◌≤◌, min, length};
+ghost use Rattle.std.specs.Prelude.{◌≡◌, ◌+◌, ◌≤◌, length};
 ghost use Rattle.std.proofs.Math.Seq.{paste};
 ghost use Rattle.script_answers.specs.Printed.{printed_as, room};
 ghost use Rattle.script_interpreter.specs.Session.{session_line, result_of};
-ghost use Rattle.script.specs.Pieces.{pending_room, started, line_in, at_end, on_piece, answered_as, written_to};
-ghost use Rattle.script.specs.inner.Steps.{not_ended, Steps};
+ghost use Rattle.script.specs.Pieces.{started, line_in, at_end, on_piece, answered_as, written_to};
+ghost use Rattle.script.specs.inner.Steps.{Steps};
 
-use crate::splitting::{keep, line_end};
+use crate::splitting::{keep, line_end, shown};
 use script_answers::{Printed, ROOM};
 use script_command::LINE_LENGTH;
 use script_interpreter::{LineResult, Session};
@@ -24,7 +24,7 @@ pub const PIECE: usize = 4096;
 
 pub const OUTPUT: usize = PIECE * ROOM;
 
-// What has come of a line that has begun.
+// What has come of a line that has begun. No heap is a rule of the project: a fixed buffer, and how much of it is used.
 #[derive(Clone, Copy)]
 pub struct Pending {
     pub bytes: [u8; PENDING],
@@ -46,65 +46,33 @@ pub struct Answered {
     pub count: usize,
 }
 
-// A line taken from a piece, and what it prints; or, where no line ends or what it prints has no
-// space, a line that goes on to `used`.
+// A line taken from a piece, and what it prints; `None` where no line ends or what it prints has no
+// space: the line goes on to `used`.
 #[derive(Clone, Copy)]
 struct Step {
     script: Script,
     used: usize,
-    printed: Printed,
-    is_line: bool,
+    printed: Option<Printed>,
 }
 
 // The start of a script: no bench is open.
 pub fn start() -> Script
     ensures { result ≡ started }
 {
-    let session = Session {
-        is_open: false,
-        bench: bench_fresh::fresh_bench(0),
-        link: bench_fresh::fresh_link(),
-    };
-    let pending = Pending {
-        bytes: [0u8; PENDING],
-        length: 0,
-    };
     Script {
-        session: session,
-        pending: pending,
+        session: Session { bench: None },
+        pending: Pending {
+            bytes: [0; PENDING],
+            length: 0,
+        },
     }
-}
-
-// How many bytes a line that has begun shows.
-fn shown(length: usize) -> usize
-    ensures { result ≡ min pending_room length }
-{
-    if length < PENDING { length } else { PENDING }
 }
 
 // The line that has begun ends.
 fn ended(session: Session, pending: Pending) -> LineResult
     ensures { result ≡ result_of (session_line session (line_in pending)) }
 {
-    let bytes = pending.bytes;
-    let n = shown(pending.length);
-    script_interpreter::line(session, &bytes[..n])
-}
-
-// A line that goes on: its line feed is not taken.
-fn not_ended(session: Session, pending: Pending, used: usize) -> Step
-    ensures { result ≡ not_ended session pending used }
-{
-    let script = Script {
-        session: session,
-        pending: pending,
-    };
-    Step {
-        script: script,
-        used: used,
-        printed: script_answers::nothing(),
-        is_line: false,
-    }
+    script_interpreter::line(session, shown(&pending))
 }
 
 // The first line of a piece.
@@ -112,32 +80,29 @@ fn next_line(script: Script, piece: &[u8], space: usize) -> Step
     ensures { Steps space script piece.now result }
 {
     let session = script.session;
-    let before = script.pending;
     let end = line_end(piece);
-    let pending = keep(before, &piece[..end]);
+    let pending = keep(script.pending, &piece[..end]);
+    let goes_on = Step {
+        script: Script { session, pending },
+        used: end,
+        printed: None,
+    };
     if end == piece.len() {
-        return not_ended(session, pending, end);
+        return goes_on;
     }
     let result = ended(session, pending);
-    let printed = result.printed;
-    if space < printed.length {
-        return not_ended(session, pending, end);
+    if space < result.printed.length {
+        return goes_on;
     }
-    let bytes = pending.bytes;
-    let after = result.session;
-    let empty = Pending {
-        bytes: bytes,
-        length: 0,
-    };
-    let next = Script {
-        session: after,
-        pending: empty,
-    };
+    let mut empty = pending;
+    empty.length = 0;
     Step {
-        script: next,
+        script: Script {
+            session: result.session,
+            pending: empty,
+        },
         used: end + 1,
-        printed: printed,
-        is_line: true,
+        printed: Some(result.printed),
     }
 }
 
@@ -146,14 +111,7 @@ fn put(printed: Printed, out: &mut [u8], at: usize)
     requires { (printed.length ≤ room) × (at + printed.length ≤ length out.old) }
     ensures { out.new ≡ paste out.old at printed.bytes printed.length }
 {
-    let bytes = printed.bytes;
-    let count = printed.length;
-    let mut i: usize = 0;
-    while i < count {
-        let j = at + i;
-        out[j] = bytes[i];
-        i += 1;
-    }
+    out[at..at + printed.length].copy_from_slice(&printed.bytes[..printed.length]);
 }
 
 // Takes a piece of the input, and prints the answers to the lines that end in it at the start of
@@ -169,33 +127,27 @@ pub fn answer(script: Script, piece: &[u8], out: &mut [u8]) -> Answered
         let step = next_line(now, &piece[used..], out.len() - count);
         now = step.script;
         used += step.used;
-        if !step.is_line {
-            return Answered {
-                script: now,
-                used: used,
-                count: count,
-            };
-        }
-        let printed = step.printed;
+        let Some(printed) = step.printed else {
+            break;
+        };
         put(printed, out, count);
         count += printed.length;
     }
     Answered {
         script: now,
-        used: used,
-        count: count,
+        used,
+        count,
     }
 }
 
 // The end of the input: the last line may lack its line feed.
+#[tactic(auto, unfolding(crate::specs::Pieces::at_end))]
 pub fn finish(script: Script) -> Printed
     ensures { result ≡ printed_as (at_end script) }
 {
-    let session = script.session;
     let pending = script.pending;
     if pending.length == 0 {
         return script_answers::nothing();
     }
-    let result = ended(session, pending);
-    result.printed
+    ended(script.session, pending).printed
 }

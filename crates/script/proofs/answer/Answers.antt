@@ -1,12 +1,10 @@
 use borrow.Author.Rules.{rules}
 use Prim.Native.Nat.{◌^◌, ◌<◌}
 use mathlib.Core.Path.{◌≡◌}
-use mathlib.Core.Bool.{true}
-use borrow.Author.Tests.{not-true, not-false}
 use native.Mathlib.Omega.{arith}
 use lib.ListN.{length}
 use Rattle.script_answers.specs.Printed.{room}
-use Rattle.script.proofs.Turns.{going_first, going_end, going_stop, going_on, step_within, step_space}
+use Rattle.script.proofs.Turns.{going_first, going_end, going_stop, going_on, step_within, step_some, step_room, step_space}
 use Rattle.script.proofs.answer.Goals as goal
 
 pub loop-used-init : goal.loop-used-init
@@ -22,20 +20,15 @@ overflow_add-used c =
     let fits : length a.piece.now < 2 ^ 64 = c.well_formed.1.0.0 in
     omega (arith, step_within a.piece.now a.out.now a.script l.out l.now l.used l.count l.invariant t.result t.ensures)
 
-pub returns-then-not-step : goal.returns-then-not-step
-returns-then-not-step c =
-    let t = c.next_line-step in
-    let l = c.loop-used in
-    let a = c.args in
-    let p = going_stop a.piece.now a.out.now a.script l.out l.now l.used l.count l.invariant t.result t.ensures (not-true t.result.is_line c.if-not-step.true) in
-    (p.result, p.output)
-
 pub put-requires : goal.put-requires
 put-requires c =
     let t = c.next_line-step in
     let l = c.loop-used in
     let a = c.args in
-    (t.ensures.sized, omega (arith, step_space a.piece.now a.out.now a.script l.out l.now l.used l.count l.invariant t.result t.ensures))
+    let p = c.in-Some.printed in (
+      step_room a.piece.now a.out.now a.script l.out l.now l.used l.count l.invariant t.result t.ensures p c.in-Some.is,
+      omega (arith, step_space a.piece.now a.out.now a.script l.out l.now l.used l.count l.invariant t.result t.ensures p c.in-Some.is),
+    )
 
 pub overflow_add-count : goal.overflow_add-count
 overflow_add-count c =
@@ -43,28 +36,38 @@ overflow_add-count c =
     let l = c.loop-used in
     let a = c.args in
     let fits : length a.out.now < 2 ^ 64 = c.well_formed.1.1.0.0 in
-    omega (arith, step_space a.piece.now a.out.now a.script l.out l.now l.used l.count l.invariant t.result t.ensures)
+    omega (arith, step_space a.piece.now a.out.now a.script l.out l.now l.used l.count l.invariant t.result t.ensures c.in-Some.printed c.in-Some.is)
 
 pub loop-used-smaller : goal.loop-used-smaller
 loop-used-smaller c =
     let t = c.next_line-step in
     let l = c.loop-used in
     let a = c.args in
-    let line : t.result.is_line ≡ true = not-false t.result.is_line c.if-not-step.false in
-    omega (arith, step_within a.piece.now a.out.now a.script l.out l.now l.used l.count l.invariant t.result t.ensures, rw line at t.ensures.some)
+    omega (
+      arith,
+      step_within a.piece.now a.out.now a.script l.out l.now l.used l.count l.invariant t.result t.ensures,
+      step_some a.piece.now a.out.now a.script l.out l.now l.used l.count l.invariant t.result t.ensures c.in-Some.printed c.in-Some.is,
+    )
 
 pub loop-used-preserved : goal.loop-used-preserved
 loop-used-preserved c =
     let t = c.next_line-step in
     let l = c.loop-used in
     let a = c.args in
-    let line : t.result.is_line ≡ true = not-false t.result.is_line c.if-not-step.false in
-    let room_of : length t.result.printed.bytes ≡ room = search rules in
-    going_on a.piece.now a.out.now a.script l.out l.now l.used l.count l.invariant t.result t.ensures line room_of _ c.put.ensures
+    let room_of : length c.in-Some.printed.bytes ≡ room = search rules in
+    going_on a.piece.now a.out.now a.script l.out l.now l.used l.count l.invariant t.result t.ensures c.in-Some.printed c.in-Some.is room_of _ c.put.ensures
 
-pub returns : goal.returns
-returns c =
+pub returns-after-loop-used : goal.returns-after-loop-used
+returns-after-loop-used c =
     let l = c.loop-used in
     let a = c.args in
     let p = going_end a.piece.now a.out.now a.script l.out l.now l.used l.count l.invariant c.loop-used-test.false in
+    (p.result, p.output)
+
+pub returns-in_default : goal.returns-in_default
+returns-in_default c =
+    let t = c.next_line-step in
+    let l = c.loop-used in
+    let a = c.args in
+    let p = going_stop a.piece.now a.out.now a.script l.out l.now l.used l.count l.invariant t.result t.ensures c.in_default.is in
     (p.result, p.output)

@@ -1,25 +1,23 @@
-use mathlib.Core.Path.{sym, subst⁻¹}
-use lib.Seq.{length-take-le}
-use Rattle.script.specs.inner.Steps.{Steps}
+use mathlib.Core.Path.{◌≡◌, sym, ◌∙◌}
+use Rattle.script.specs.inner.Kept.{line_end}
+use Rattle.script.proofs.Begun.{end_position}
 use Rattle.script.proofs.Turns.{step_none, step_full, step_line}
 use Rattle.script.proofs.next_line.Goals as goal
-
-pub slice_bounds-keep-end : goal.slice_bounds-keep-end
-slice_bounds-keep-end c = sym (length-take-le c.line_end-end.result c.args.piece.now c.line_end-end.ensures.1)
 
 pub returns-then-end-piece : goal.returns-then-end-piece
 returns-then-end-piece c =
     let a = c.args in
-    subst⁻¹ (Steps a.space a.script a.piece.now) c.not_ended.ensures
-    (step_none a.space a.script a.piece.now c.line_end-end.result c.keep-pending.result c.line_end-end.ensures.0 c.line_end-end.ensures.1 c.keep-pending.ensures c.if-end-piece.true)
+    let e : c.line_end-end.result ≡ line_end a.piece.now = c.line_end-end.ensures ∙ sym (end_position a.piece.now) in
+    step_none a.space a.script a.piece.now c.line_end-end.result c.keep-pending.result e c.keep-pending.ensures c.if-end-piece.true
 
-pub returns-then-space-printed : goal.returns-then-space-printed
-returns-then-space-printed c =
+pub returns-then-space-result : goal.returns-then-space-result
+returns-then-space-result c =
     let a = c.args in
-    subst⁻¹ (Steps a.space a.script a.piece.now) c.not_ended-then-space-printed.ensures
-    (step_full a.space a.script a.piece.now c.line_end-end.result c.keep-pending.result c.line_end-end.ensures.0 c.line_end-end.ensures.1 c.keep-pending.ensures c.ended-result.result c.ended-result.ensures c.if-end-piece.false c.if-space-printed.true)
+    let e : c.line_end-end.result ≡ line_end a.piece.now = c.line_end-end.ensures ∙ sym (end_position a.piece.now) in
+    step_full a.space a.script a.piece.now c.line_end-end.result c.keep-pending.result e c.keep-pending.ensures c.ended-result.result c.ended-result.ensures c.if-end-piece.false c.if-space-result.true
 
 pub returns : goal.returns
 returns c =
     let a = c.args in
-    step_line a.space a.script a.piece.now c.line_end-end.result c.keep-pending.result c.line_end-end.ensures.0 c.line_end-end.ensures.1 c.keep-pending.ensures c.ended-result.result c.ended-result.ensures c.if-end-piece.false c.if-space-printed.false
+    let e : c.line_end-end.result ≡ line_end a.piece.now = c.line_end-end.ensures ∙ sym (end_position a.piece.now) in
+    step_line a.space a.script a.piece.now c.line_end-end.result c.keep-pending.result e c.keep-pending.ensures c.ended-result.result c.ended-result.ensures c.if-end-piece.false c.if-space-result.false
