@@ -3,16 +3,33 @@ ghost use Rattle.std.specs.Prelude.{◌≡◌, ◌+◌, ◌≤◌, length};
 ghost use Rattle.katan.specs.Checks.{number_of, refused};
 ghost use Rattle.bench.specs.Bench.{reply_answer, reading_answer};
 ghost use Rattle.bench_replay.specs.Encoding.{answer_length, answer_bytes};
-ghost use Rattle.bench_replay.specs.inner.Steps.{field_bytes, overwritten};
+ghost use Rattle.bench_replay.specs.inner.Steps.{byte_of, field_bytes, overwritten};
 
-use crate::{AGAIN, ANSWER_LENGTH, AT, DONE, REFUSED};
+use crate::ANSWER_LENGTH;
 use bench::{Reading, Reply};
 use katan::Refusal;
+
+// The kinds of an answer.
+#[derive(Clone, Copy, Debug, PartialEq, Eq)]
+pub enum Kind {
+    Done = 1,
+    Again = 2,
+    At = 3,
+    Refused = 4,
+}
+
+impl From<Kind> for u8 {
+    ghost from_gives = { λ kind byte. byte ≡ byte_of kind };
+
+    fn from(kind: Kind) -> u8 {
+        kind as u8
+    }
+}
 
 // The kind, the number of 4 bytes and the number of 8.
 #[derive(Clone, Copy)]
 pub struct Fields {
-    pub kind: u8,
+    pub kind: Kind,
     pub first: u32,
     pub second: u64,
 }
@@ -21,7 +38,7 @@ fn refused_fields(refusal: Refusal) -> Fields
     ensures { field_bytes result ≡ answer_bytes (refused (number_of refusal)) }
 {
     Fields {
-        kind: REFUSED,
+        kind: Kind::Refused,
         first: u32::from(u8::from(refusal)),
         second: 0,
     }
@@ -32,12 +49,12 @@ pub fn reply_fields(reply: Result<Reply, Refusal>) -> Fields
 {
     match reply {
         Ok(Reply::Done { number, total }) => Fields {
-            kind: DONE,
+            kind: Kind::Done,
             first: number,
             second: u64::from(total),
         },
         Ok(Reply::Again { number, total }) => Fields {
-            kind: AGAIN,
+            kind: Kind::Again,
             first: number,
             second: u64::from(total),
         },
@@ -50,7 +67,7 @@ pub fn read_fields(answer: Result<Reading, Refusal>) -> Fields
 {
     match answer {
         Ok(reading) => Fields {
-            kind: AT,
+            kind: Kind::At,
             first: u32::from(reading.position.0),
             second: reading.registers,
         },
@@ -63,7 +80,7 @@ pub fn write(answer: Fields, at: usize, out: &mut [u8])
     requires { at + answer_length ≤ length out.old }
     ensures { out.new ≡ overwritten out.old at (field_bytes answer) }
 {
-    out[at] = answer.kind;
+    out[at] = u8::from(answer.kind);
     katan_numbers::put_number(u64::from(answer.first), &mut out[at + 1..at + 5]);
     katan_numbers::put_number(answer.second, &mut out[at + 5..at + ANSWER_LENGTH]);
 }

@@ -3,9 +3,9 @@ ghost use Rattle.std.specs.Prelude.{◌≡◌, ◌≤◌, false, length, MatchOp
 ghost use Rattle.bench_replay.specs.Encoding.{head_length, call_number, is_call, fits as fits_in};
 ghost use Rattle.bench_replay.specs.inner.Steps.{call_view, IsFirst};
 
-use crate::{ANSWER_LENGTH, ARRIVAL, HEAD_LENGTH, READ};
+use crate::{ANSWER_LENGTH, HEAD_LENGTH};
 
-// A record that arrives, or the number of a lane that is read.
+// A record that arrives, of kind 1, or the number of a lane that is read, of kind 2.
 #[derive(Clone, Copy)]
 pub enum Call<'a> {
     Arrival(&'a [u8]),
@@ -27,11 +27,11 @@ pub fn next_call(bytes: &[u8]) -> Option<(Call<'_>, &[u8])>
     let (_, rest) = bytes.split_at_checked(HEAD_LENGTH)?;
     let number = number_of(bytes);
     match bytes[0] {
-        ARRIVAL => {
+        1 => {
             let (sent, after) = rest.split_at_checked(number)?;
             Some((Call::Arrival(sent), after))
         }
-        READ => Some((Call::Read(number), rest)),
+        2 => Some((Call::Read(number), rest)),
         _ => None,
     }
 }

@@ -19,24 +19,12 @@ mod calls;
 mod run;
 
 // A call has a head: in byte 0 its kind, in bytes 1 to 4 a number, low byte first. An arrival's is the length of its record, which follows
-// the head; a read's is the lane's. The kinds stay bytes of this format: a call is read into a `Call` at once.
+// the head; a read's is the lane's.
 pub const HEAD_LENGTH: usize = 5;
 
-pub const ARRIVAL: u8 = 1;
-
-pub const READ: u8 = 2;
-
 // An answer has 13 bytes: in byte 0 its kind, in bytes 1 to 4 the number, the position or the refusal's number, in bytes 5 to 12 the total
-// or the registers, 0 for a refusal. Numbers are low byte first. The kinds stay bytes of this format too: they are written, and never read.
+// or the registers, 0 for a refusal. Numbers are low byte first.
 pub const ANSWER_LENGTH: usize = 13;
-
-pub const DONE: u8 = 1;
-
-pub const AGAIN: u8 = 2;
-
-pub const AT: u8 = 3;
-
-pub const REFUSED: u8 = 4;
 
 // The bench as the list left it, and the answer: nothing more where every call is run, or the first fault found.
 #[derive(Clone, Copy)]

@@ -6,6 +6,8 @@ use Rattle.bench.specs.declared.Link.{Link}
 use Rattle.bench.specs.Bench.{State}
 use Rattle.bench.specs.Calls.{Call, arrival, reading}
 use Rattle.bench_replay.specs.declared.answers.Fields.{Fields}
+use Rattle.bench_replay.specs.declared.answers.Kind.{Kind}
+use Rattle.bench_replay.specs.declared.answers.Kind.TheVariants.{Done, Again, At, Refused}
 use Rattle.bench_replay.specs.declared.calls.Call.{Call as CallOf}
 use Rattle.bench_replay.specs.declared.calls.Call.TheVariants.{Arrival, Read}
 use Rattle.bench_replay.specs.Encoding.{call_size, is_call, first_call, answer_fields}
@@ -24,8 +26,15 @@ pub record IsFirst (s : List ℕ) (c : Call) (rest : List ℕ) : Type 0 where
 abbrev pub state_of : Bench → Link → State
 state_of b l = record { bench = b; link = l }
 
+-- the byte of an answer's kind
+abbrev pub byte_of : Kind → ℕ
+byte_of Done = 1
+byte_of Again = 2
+byte_of At = 3
+byte_of Refused = 4
+
 abbrev pub field_bytes : Fields → List ℕ
-field_bytes f = answer_fields f.kind f.first f.second
+field_bytes f = answer_fields (byte_of f.kind) f.first f.second
 
 -- a list with the elements from place i on replaced by those of another
 unfoldable pub overwritten : List ℕ → ℕ → List ℕ → List ℕ
