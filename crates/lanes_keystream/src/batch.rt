@@ -86,7 +86,7 @@ fn combine(stream: &[u8], at: usize, end: usize, message: &[u8], out: &mut [u8])
     }
 }
 
-// All of the message, block after block. A batch is run while there is a block.
+// All of the message, block after block. A batch has 64 blocks, and the last the rest.
 pub fn combine_all(
     variant: u8,
     size: usize,
@@ -102,13 +102,12 @@ pub fn combine_all(
 {
     let keys = repeated(key);
     let mut stream = [0u8; BATCH_LENGTH];
-    let mut first: usize = 0;
-    while first < blocks {
+    for batch in 0..blocks.div_ceil(LANES) {
+        let first = LANES * batch;
         let count = LANES.min(blocks - first);
         put_batch(variant, size, &keys, start, first, count, &mut stream);
         let at = size * first;
         let end = message.len().min(at + size * count);
         combine(&stream, at, end, message, out);
-        first += count;
     }
 }

@@ -19,7 +19,7 @@ fn block_count(size: usize, length: usize) -> usize
     requires { (1 ≤ size) × (size ≤ word_bytes) × (length ≤ longest_message) }
     ensures { result ≡ (length + (size - 1)) / size }
 {
-    (length + (size - 1)) / size
+    length.div_ceil(size)
 }
 
 // Whether the start plus the number of blocks exceeds 2^n. At n = 64 neither of them need fit a word.
