@@ -1,16 +1,16 @@
 // A move or a clear: one lane from its own position with its own key, and all lanes that a mask names.
 #![tactic(auto)]
 
-ghost use Rattle.std.specs.Prelude.{◌≡◌, ◌+◌, ◌≤◌, Some};
+ghost use Rattle.std.specs.Prelude.{◌≡◌, ◌≤◌, Some};
 ghost use Rattle.katan.specs.Counter.{rounds};
-ghost use Rattle.bench.specs.Steps.{loaded_at, ahead as ahead_of, behind as behind_of, step_slots, moved_slots};
+ghost use Rattle.bench.specs.Steps.{loaded_at, step_slots, moved_slots};
 ghost use Rattle.bench_moves.specs.inner.Sound.{SoundLane};
 ghost use Rattle.bench_moves.specs.Moves.{lane_as, moved_as, step_lane, move_lane, with_slots};
 
 use bench::{Bench, Loaded};
 use katan::RoundPosition;
 
-// What a record does to each lane that it names.
+// What a record does to each lane that it names. It stays an enum, since what step_lanes promises is said of it.
 #[derive(Clone, Copy)]
 pub enum Motion {
     Forward(u8),
@@ -32,20 +32,6 @@ pub struct BenchStep {
     pub total: u32,
 }
 
-// How far forward a count goes from a position, and back: a lane waits at either end.
-fn ahead(count: u8, p: RoundPosition) -> u8
-    requires { p.0 ≤ rounds }
-    ensures { (result ≡ ahead_of count p.0) × (p.0 + result ≤ rounds) }
-{
-    count.min(katan::ROUNDS - p.0)
-}
-
-fn behind(count: u8, p: RoundPosition) -> u8
-    ensures { (result ≡ behind_of count p.0) × (result ≤ p.0) }
-{
-    count.min(p.0)
-}
-
 // What a loaded lane holds at a position. For one that is there already nothing is computed.
 fn loaded_at(variant: u8, h: Loaded, p: RoundPosition) -> Loaded
     requires { SoundLane variant (Some h) × (p.0 ≤ rounds) }
@@ -64,13 +50,14 @@ fn loaded_at(variant: u8, h: Loaded, p: RoundPosition) -> Loaded
     }
 }
 
+// A move goes as far as the count says, or to the first or last position, where a lane waits.
 fn sound_step(variant: u8, motion: Motion, lane: Option<Loaded>) -> LaneStep
     requires { SoundLane variant lane }
     ensures { (result.lane ≡ lane_as variant motion lane) × (result.moved ≡ moved_as motion lane) }
 {
     match (motion, lane) {
         (Motion::Forward(count), Some(h)) => {
-            let moved = ahead(count, h.position);
+            let moved = count.min(katan::ROUNDS - h.position.0);
             let to = RoundPosition(h.position.0 + moved);
             LaneStep {
                 lane: Some(loaded_at(variant, h, to)),
@@ -78,7 +65,7 @@ fn sound_step(variant: u8, motion: Motion, lane: Option<Loaded>) -> LaneStep
             }
         }
         (Motion::Back(count), Some(h)) => {
-            let moved = behind(count, h.position);
+            let moved = count.min(h.position.0);
             let to = RoundPosition(h.position.0 - moved);
             LaneStep {
                 lane: Some(loaded_at(variant, h, to)),
