@@ -80,7 +80,7 @@ module _ {A : Type 0} (a : A) (k : ℕ) where
       }
 
   pub first_found : (cs : List Check) → checked cs (value a) ≡ refused k → FirstFault cs k
-  first_found [] e = let z : ◌≡◌ {A = ℕ} 0 1 = cc in absurd (omega arith)
+  first_found [] e = cc
   first_found (c ∷ cs) e = found_in c cs c.fault refl (first_found cs) e
 
 module _ (v : ℕ) where
@@ -129,7 +129,7 @@ module _ (v : ℕ) where
 
   latest_known : (calls : List Call) → Known (model_after v calls) (model_answers v calls)
   unfolding fresh_model
-  latest_known calls = known_calls calls fresh_model [] (λ s earlier e. let z : ◌≡◌ {A = ℕ} 0 1 = cc in absurd (omega arith))
+  latest_known calls = known_calls calls fresh_model [] (λ s earlier e. cc)
 
   -- ---- the reference model at one more arrival
 
@@ -169,8 +169,8 @@ module _ (v : ℕ) where
     refused_turn : (k : ℕ) (o : Outcome Turn) → turn_now ≡ o → (arrival_as o (model_after v calls) s).1 ∷ [] ≡ refused k ∷ []
         → FirstFault (arrival_checks (model_view v (model_after v calls)) s) k
     unfolding arrival_as decision
-    refused_turn k (value counts) d f = let z : ◌≡◌ {A = ℕ} 0 1 = cc in absurd (omega arith)
-    refused_turn k (value repeats) d f = let z : ◌≡◌ {A = ℕ} 0 1 = cc in absurd (omega arith)
+    refused_turn k (value counts) d f = cc
+    refused_turn k (value repeats) d f = cc
     refused_turn k (refused n) d f = first_found (turn_of (model_view v (model_after v calls)).last s) k (arrival_checks (model_view v (model_after v calls)) s) (cc)
 
     refused_answers : (k : ℕ) → model_answers v (and_arrival calls s) ≡ model_answers v calls ++ refused k ∷ [] → FirstFault (arrival_checks (model_view v (model_after v calls)) s) k

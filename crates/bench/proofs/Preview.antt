@@ -3,13 +3,12 @@
 use mathlib.Core.Path.{◌≡◌, refl, sym, ap, ap₂, ◌∙◌}
 use mathlib.Core.List.{List, [], ◌∷◌}
 use Prim.Native.Nat.{ℕ}
-use native.Mathlib.Omega.{arith}
 use lib.ListN.{get_or}
 use Rattle.std.specs.Prelude.{None}
 use Rattle.katan.specs.Checks.{Outcome, value, refused}
 use Rattle.bench.specs.declared.Bench.{Bench}
 use Rattle.bench.specs.declared.Link.{Link}
-use Rattle.bench.specs.Calls.{arrival, done, again, Answer, state_after, answers_to}
+use Rattle.bench.specs.Calls.{arrival, again, Answer, state_after, answers_to}
 use Rattle.bench.specs.Checks.{LaneView, Turn, counts, repeats, decision}
 use Rattle.bench.specs.Model.{Model, fresh_model, model_transition}
 use Rattle.bench.specs.Bench.{lane_view, bench_view, Effect, counted_effect, effect_as, arrive_of, State, fresh_state, bench_transition}
@@ -19,12 +18,6 @@ use Rattle.bench.proofs.Lists.{Keeps, same_call, fresh_keeps, every_list, two_li
 
 -- ---- a preview that does not count shows the bench's own lanes
 
-done_not_refused : {n t k : ℕ} → ◌≡◌ {A = Answer} (value (done n t)) (refused k) → ⊥
-done_not_refused e = let z : ◌≡◌ {A = ℕ} 0 1 = cc in omega arith
-
-done_not_again : {n t m u : ℕ} → ◌≡◌ {A = Answer} (value (done n t)) (value (again m u)) → ⊥
-done_not_again e = let z : ◌≡◌ {A = ℕ} 0 1 = cc in omega arith
-
 module _ (b : Bench) (l : Link) (s : List ℕ) where
   abbrev Own : Effect → Type 0
   Own e =
@@ -33,7 +26,7 @@ module _ (b : Bench) (l : Link) (s : List ℕ) where
 
   own : (o : Outcome Turn) → Own (effect_as o b l s)
   unfolding effect_as counted_effect
-  own (value counts) = (λ k e. absurd (done_not_refused e), λ n t e. absurd (done_not_again e))
+  own (value counts) = (λ k e. cc, λ n t e. cc)
   own (value repeats) = (λ k e. refl, λ n t e. refl)
   own (refused j) = (λ k e. refl, λ n t e. refl)
 

@@ -50,7 +50,7 @@ module _ (low high : ℕ) where
   Between (c ∷ cs) = (low ≤ c.number) × (c.number ≤ high) × Between cs
 
   between : (k : ℕ) (cs : List Check) → Between cs → checked cs (value (tt {0})) ≡ refused k → (low ≤ k) × (k ≤ high)
-  between k [] b e = let z : ◌≡◌ {A = ℕ} 0 1 = cc in absurd (omega arith)
+  between k [] b e = cc
   between k (c ∷ cs) b e = go c.fault refl (between k cs b.2)
     where
       go : (t : Bool) → c.fault ≡ t → (checked cs (value (tt {0})) ≡ refused k → (low ≤ k) × (k ≤ high)) → (low ≤ k) × (k ≤ high)

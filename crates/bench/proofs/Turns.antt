@@ -112,7 +112,7 @@ module _ (w : View) (s : List ℕ) where
           stands (inr (omega arith, eqb-true (decode s).number w.last last, sym (same_equal w.latest s bytes)))
       go false false true false next fresh last bytes =
           let h = eqb-false w.last 0 fresh in
-          other (omega arith, eqb-true (decode s).number w.last last, λ e. let z : ◌≡◌ {A = Bool} true false = sym (same_self s) ∙ ap (λ (l : List ℕ). same_bytes l s) e ∙ bytes in let n : ◌≡◌ {A = ℕ} 0 1 = cc in omega arith)
+          other (omega arith, eqb-true (decode s).number w.last last, λ e. cc (same_self s))
 
   pub passes : InTurn w s → NoFault turns_of
   passes (inl next) = next_passes w.last w.latest s next
@@ -143,7 +143,7 @@ module _ (w : View) (s : List ℕ) where
   in-turn z = go standing
     where
       not_found : (k : ℕ) → checked turns_of (value (tt {0})) ≡ refused k → ⊥
-      not_found k e = let v = sym (no_fault_found turns_of (value (tt {0})) z) ∙ e in let n : ◌≡◌ {A = ℕ} 0 1 = cc in omega arith
+      not_found k e = cc (no_fault_found turns_of (value (tt {0})) z)
 
       go : Standing → InTurn w s
       go (stands i) = i
@@ -198,7 +198,7 @@ module _ (w : View) (s : List ℕ) where
     where
       go : (b : Bool) → eqb (decode s).number (w.last + 1) ≡ b → value (pick b counts repeats) ≡ value counts → (decode s).number ≡ w.last + 1
       go true p q = eqb-true (decode s).number (w.last + 1) p
-      go false p q = let z : ◌≡◌ {A = ℕ} 0 1 = cc in absurd (omega arith)
+      go false p q = cc
 
   -- and is otherwise a repeat, of the latest and of a nonzero number
   pub record IsRepeat : Type 0 where
@@ -213,7 +213,7 @@ module _ (w : View) (s : List ℕ) where
       go (eqb (decode s).number (w.last + 1)) refl a.1 (accepted a.0).turn
     where
       go : (b : Bool) → eqb (decode s).number (w.last + 1) ≡ b → value (pick b counts repeats) ≡ value repeats → InTurn w s → IsRepeat
-      go true p q t = let z : ◌≡◌ {A = ℕ} 0 1 = cc in absurd (omega arith)
+      go true p q t = cc
       go false p q (inl t) = absurd (eqb-false (decode s).number (w.last + 1) p t)
       go false p q (inr t) = record { is_last = t.1; some = t.0; is_latest = t.2 }
 

@@ -45,11 +45,11 @@ module _ (s : List ℕ) (n : ℕ) (e : n ≡ min (length s) record_length) where
           ∙ get_or-replicate record_length (n + (j - length (take n s))) 0 0 (omega (arith, len))
           ∙ sym (get_or-eq_default s 0 {n = j} (omega arith))
 
-pub record_or_zeros : (s : List ℕ) → take (min (length s) record_length) s ++ drop (min (length s) record_length) (replicate record_length 0) ≡ record_in s
+pub record_or_zeros : (s : List ℕ) → record_in s ≡ take (min (length s) record_length) s ++ drop (min (length s) record_length) (replicate record_length 0)
 unfolding record_in
 record_or_zeros s =
     let n = min (length s) record_length in
-    full (λ (j : ℕ). get_or s j 0) record_length (take n s ++ drop n (replicate record_length 0)) (simp (length-append, length-take, length-drop) (omega arith)) (at_place s n refl)
+    sym (full (λ (j : ℕ). get_or s j 0) record_length (take n s ++ drop n (replicate record_length 0)) (simp (length-append, length-take, length-drop) (omega arith)) (at_place s n refl))
 
 pub take-bytes : (n : ℕ) (xs : List ℕ) → AreBytes xs → AreBytes (take n xs)
 take-bytes zero xs h j = omega arith

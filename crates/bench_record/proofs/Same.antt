@@ -4,7 +4,6 @@ use mathlib.Core.Path.{◌≡◌, refl, ap₂}
 use mathlib.Core.List.{List, [], ◌∷◌}
 use mathlib.Core.Bool.{true}
 use Prim.Native.Nat.{ℕ}
-use native.Mathlib.Omega.{arith}
 use borrow.Author.Tests.{eq-eqb, eqb-true}
 use lib.Dec.{eqb}
 use Rattle.std.specs.Cmp.Lexicographic.{pointwise}
@@ -23,8 +22,8 @@ same_by_pairs (x ∷ xs) (y ∷ ys) = rw (same_by_pairs xs ys)
 pub same_equal : (a b : List ℕ) → same_bytes a b ≡ true → a ≡ b
 unfolding same_bytes
 same_equal [] [] e = refl
-same_equal [] (y ∷ ys) e = let z : ◌≡◌ {A = ℕ} 0 1 = cc in absurd (omega arith)
-same_equal (x ∷ xs) [] e = let z : ◌≡◌ {A = ℕ} 0 1 = cc in absurd (omega arith)
+same_equal [] (y ∷ ys) e = cc
+same_equal (x ∷ xs) [] e = cc
 same_equal (x ∷ xs) (y ∷ ys) e =
     let d = both (eqb x y) (same_bytes xs ys) e in
     ap₂ ◌∷◌ (eqb-true x y d.0) (same_equal xs ys d.1)

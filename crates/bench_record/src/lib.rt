@@ -90,6 +90,7 @@ pub struct Record {
 }
 
 // The bytes of a record, to keep.
+#[tactic(auto, using(crate::proofs::Parts::record_or_zeros))]
 pub fn record_in(bytes: &[u8]) -> [u8; LENGTH]
     ensures { result ≡ record_in bytes.now }
 {
@@ -124,6 +125,7 @@ pub fn decoded(sent: &[u8]) -> Record
         lane: byte_at(sent, LANE_AT),
         count: byte_at(sent, COUNT_AT),
         gap: byte_at(sent, GAP_AT),
+        // Four bytes fit, so that `as` loses nothing, where `try_from` would leave an error to answer.
         number: word_in(sent, NUMBER_AT, MASK_AT) as u32,
         mask: word_in(sent, MASK_AT, KEY_AT),
         key: katan_numbers::key_of(bytes_in(sent, KEY_AT, katan::KEY_BYTES)),
