@@ -157,21 +157,14 @@ pub fn bit_at(w: Window, i: usize) -> u64
     }
 }
 
-// The same as a byte.
-fn bit_byte(w: Window, i: usize) -> u8
-    ensures { result ≡ bit (window_number w) i }
-{
-    bit_at(w, i) as u8
-}
-
 // The bits of a key, from which every round of a KTANTAN picks.
 pub fn key_bits(key: Key) -> [u8; katan::KEY_BITS]
     ensures { result ≡ key_bits (key_number key) }
 {
     let words = key_words(key);
     let mut bits = [0u8; katan::KEY_BITS];
-    for i in 0..katan::KEY_BITS {
-        bits[i] = bit_byte(words, i);
+    for (i, bit) in bits.iter_mut().enumerate() {
+        *bit = bit_at(words, i) as u8;
     }
     bits
 }

@@ -6,6 +6,7 @@ ghost use Rattle.katan_keys.specs.Window.{window_number};
 ghost use Rattle.katan_clocks.specs.inner.Words.{beside, words_of};
 ghost use Rattle.katan_registers.specs.inner.Tables.{input_from, table_input, key_bit, rounds_input};
 
+use crate::rounds::Machine;
 use katan::RoundInput;
 use katan_keys::Window;
 use katan_variants::{Tables, Width};
@@ -49,49 +50,39 @@ fn word_of<W: Width, F: Fn(usize) -> u64>(bit: F) -> u64
     word * ((1 << clocks) - 1)
 }
 
-// KTANTAN: the key bit that entry i of the table names.
-fn picked(tables: &Tables, picks: &[u8; katan::KEY_BITS], i: usize) -> u64
-    requires { i < 2 * rounds }
-    ensures is { result ≡ get_or picks.now (get_or tables.now.numbers i 0) 0 }
-    ensures small { result < 2 ^ 8 }
-{
-    u64::from(picks[usize::from(tables.numbers[i])])
-}
-
-// ka of the rounds of a stride from round r on where i is 0, kb where it is 1. KATAN's are every second bit of the window, from bit i on.
-fn key_word_of<W: Width>(
-    variant: u8,
-    tables: &Tables,
-    picks: &[u8; katan::KEY_BITS],
-    r: usize,
-    source: Window,
-    i: usize,
-) -> u64
-    requires { (i < 2) × (r + stride_of W.Width.row ≤ rounds) }
-    ensures { result ≡ beside W.Width.row.clocks (key_bit variant tables.now.numbers picks.now r (window_number source) i) (stride_of W.Width.row) * (2 ^ W.Width.row.clocks - 1) }
-{
-    if katan_variants::is_katan(variant) {
-        word_of::<W, _>(|j| katan_keys::bit_at(source, i + 2 * j))
-    } else {
-        word_of::<W, _>(|j| picked(tables, picks, 2 * r + i + 2 * j))
+impl<'t, W: Width> Machine<'t, W> {
+    // KTANTAN: the key bit that entry i of the table names.
+    fn picked(&self, picks: &[u8; katan::KEY_BITS], i: usize) -> u64
+        requires { i < 2 * rounds }
+        ensures is { result ≡ get_or picks.now (get_or self.now.tables.now.numbers i 0) 0 }
+        ensures small { result < 2 ^ 8 }
+    {
+        u64::from(picks[usize::from(self.tables.numbers[i])])
     }
-}
 
-// The inputs of the rounds of a stride, from round r on. T shifts left, so that the next rounds' IR follow that of round r in its T.
-pub fn inputs_of<W: Width>(
-    variant: u8,
-    tables: &Tables,
-    picks: &[u8; katan::KEY_BITS],
-    r: usize,
-    source: Window,
-) -> RoundInput
-    requires { r + stride_of W.Width.row ≤ rounds }
-    ensures { result ≡ words_of W.Width.row.clocks (rounds_input variant tables.now.counters tables.now.numbers picks.now r (window_number source)) (stride_of W.Width.row) }
-{
-    let t = u64::from(tables.counters[r]);
-    RoundInput {
-        ir: word_of::<W, _>(|j| katan_numbers::bit_of(t, 7 - j)),
-        ka: key_word_of::<W>(variant, tables, picks, r, source, 0),
-        kb: key_word_of::<W>(variant, tables, picks, r, source, 1),
+    // ka of the rounds of a stride from round r on where i is 0, kb where it is 1. KATAN's are every second bit of the window, from bit i
+    // on.
+    fn key_word(&self, picks: &[u8; katan::KEY_BITS], r: usize, source: Window, i: usize) -> u64
+        requires { (i < 2) × (r + stride_of W.Width.row ≤ rounds) }
+        ensures { result ≡ beside W.Width.row.clocks (key_bit self.now.variant self.now.tables.now.numbers picks.now r (window_number source) i) (stride_of W.Width.row) * (2 ^ W.Width.row.clocks - 1) }
+    {
+        if katan_variants::is_katan(self.variant) {
+            word_of::<W, _>(|j| katan_keys::bit_at(source, i + 2 * j))
+        } else {
+            word_of::<W, _>(|j| self.picked(picks, 2 * r + i + 2 * j))
+        }
+    }
+
+    // The inputs of the rounds of a stride, from round r on. T shifts left, so that the next rounds' IR follow that of round r in its T.
+    pub fn inputs(&self, picks: &[u8; katan::KEY_BITS], r: usize, source: Window) -> RoundInput
+        requires { r + stride_of W.Width.row ≤ rounds }
+        ensures { result ≡ words_of W.Width.row.clocks (rounds_input self.now.variant self.now.tables.now.counters self.now.tables.now.numbers picks.now r (window_number source)) (stride_of W.Width.row) }
+    {
+        let t = u64::from(self.tables.counters[r]);
+        RoundInput {
+            ir: word_of::<W, _>(|j| katan_numbers::bit_of(t, 7 - j)),
+            ka: self.key_word(picks, r, source, 0),
+            kb: self.key_word(picks, r, source, 1),
+        }
     }
 }

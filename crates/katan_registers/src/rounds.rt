@@ -10,7 +10,7 @@ ghost use Rattle.katan_registers.specs.declared.rounds.Running.{Running};
 ghost use Rattle.katan_registers.specs.inner.Tables.{KeyBits};
 ghost use Rattle.katan_registers.specs.inner.Moves.{Moves, MovesBack};
 
-use crate::inputs::{input_of, inputs_of};
+use crate::inputs::input_of;
 use katan::{Key, Registers, RoundPosition};
 use katan_keys::{Step, Window};
 use katan_variants::{Tables, Width};
@@ -61,7 +61,11 @@ fn back<F: Fn(usize, Running) -> Running>(
     t
 }
 
-// What all rounds of a run share: the variant, of W's width, its key, and the tables by which its rounds find their inputs.
+// What all rounds of a run share: the variant, of W's width, its key, and the tables by which its rounds find their inputs. Those of
+// strides take the key's bits too, lent beside it: a move of one round would be slower by the time that it takes to write them out.
+//
+// Each way has functions of its own: they differ in the formulas, in the order, the last round first, and in where the source steps,
+// behind a round or before it, so that one function for both would hold every line twice.
 #[derive(Drop)]
 pub struct Machine<'t, W: Width> {
     pub variant: u8,
@@ -102,7 +106,7 @@ impl<'t, W: Width> Machine<'t, W> {
         requires { (r + stride_of (row_of self.now.variant) ≤ rounds) × KeyBits self.now.variant (key_number self.now.key) picks.now }
         ensures { Moves self.now.variant (key_number self.now.key) r (stride_of (row_of self.now.variant)) h result }
     {
-        let w = inputs_of::<W>(self.variant, self.tables, picks, r, h.source);
+        let w = self.inputs(picks, r, h.source);
         Running {
             registers: katan_clocks::stride::<W>(w, h.registers),
             source: katan_keys::next_source(self.variant, Step::stride::<W>(), h.source),
@@ -115,7 +119,7 @@ impl<'t, W: Width> Machine<'t, W> {
         ensures { MovesBack self.now.variant (key_number self.now.key) r (stride_of (row_of self.now.variant)) h result }
     {
         let before = katan_keys::previous_source(self.variant, Step::stride::<W>(), h.source);
-        let w = inputs_of::<W>(self.variant, self.tables, picks, r, before);
+        let w = self.inputs(picks, r, before);
         Running {
             registers: katan_clocks::unstride::<W>(w, h.registers),
             source: before,
@@ -164,8 +168,8 @@ impl<'t, W: Width> Machine<'t, W> {
         ensures { result ≡ run (row_of self.now.variant) (input_of self.now.variant (key_number self.now.key)) from.0 (to.0 - from.0) s }
     {
         let stride = katan_variants::stride::<W>();
-        let first = from.0 as usize;
-        let count = to.0 as usize - first;
+        let first = usize::from(from.0);
+        let count = usize::from(to.0) - first;
         let rest = count % stride;
         let start = Running {
             registers: s,
@@ -182,8 +186,8 @@ impl<'t, W: Width> Machine<'t, W> {
         ensures { result ≡ unrun (row_of self.now.variant) (input_of self.now.variant (key_number self.now.key)) to.0 (from.0 - to.0) s }
     {
         let stride = katan_variants::stride::<W>();
-        let last = to.0 as usize;
-        let count = from.0 as usize - last;
+        let last = usize::from(to.0);
+        let count = usize::from(from.0) - last;
         let left = count % stride;
         let start = Running {
             registers: s,
