@@ -25,7 +25,7 @@ fn block_key(keys: &[u8], i: usize) -> Key
     katan_numbers::key_of(&keys[at..end])
 }
 
-// Bits 0 to 63 of each key.
+// Bits 0 to 63 of each key. The index is a row's and a key's, whose bytes are ten.
 fn low_rows(keys: &[u8], n: usize) -> [u64; WORD_BITS]
     requires { (n ≤ word_bits) × (key_bytes * n ≤ length keys.now) }
     ensures { Entries (λ i. block_key keys.now i % 2 ^ word_bits) n result }

@@ -14,7 +14,8 @@ use katan::{KEY_BITS, ROUND_KEYS};
 const TWO_KEYS: usize = 2 * KEY_BITS;
 
 // Words up to `to`, each by the rule of k(i) with its distances s times as long. Where a stream keeps the rule, it keeps the rule with
-// doubled distances too: those are even, so that two words are made at once.
+// doubled distances too: those are even, so that two words are made at once. Each word is made of earlier ones of the same array, which no
+// iterator lends beside it.
 fn extend(words: &mut [u64; ROUND_KEYS], s: usize, to: usize)
     requires { (1 ≤ s) × (s ≤ 2) × (key_length * s ≤ to) × (to ≤ 2 * rounds) × (length words.old ≡ 2 * rounds) }
     ensures words_len { length words.new ≡ 2 * rounds }

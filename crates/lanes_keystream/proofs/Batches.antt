@@ -11,7 +11,7 @@ use lib.Dec.{ltb}
 use lib.ListN.{length, get_or, drop, replicate, length-append, length-drop, length-replicate, get_or-append, get_or-replicate}
 use lib.Seq.{get_or-drop}
 use Rattle.std.proofs.lemmas.List.{get_or-append_right}
-use lib.Pow.{pow_pos, pow_mono}
+use lib.Pow.{pow_pos}
 use Rattle.katan.specs.Bit.{pick, bytes_of}
 use Rattle.katan.specs.Sizes.{lane_count, key_bytes}
 use Rattle.katan.specs.Variant.{width_of}
@@ -21,15 +21,10 @@ use Rattle.katan.specs.Lent.{lent_after}
 use Rattle.katan.specs.inner.Within.{Entries}
 use Rattle.katan.proofs.Checked.{no_fault_found}
 use Rattle.katan.proofs.Tables.{entry}
-use Rattle.katan.proofs.Undo.{sound}
 use Rattle.lanes.specs.Many.{block_key, any, results, many_checks, many_of}
 use Rattle.lanes.specs.declared.Direction.TheVariants.{Encrypt}
 use Rattle.lanes.proofs.Faults.{no_fault}
 use Rattle.lanes_keystream.specs.inner.Batch.{byte_of}
-
--- 2 ^ n at a variant's width is no more than 2 ^ 64
-pub width_word : (v : ℕ) → 2 ^ width_of v ≤ 2 ^ 64
-width_word v = pow_mono {i = width_of v} {j = 64} (sound v).n_fits
 
 -- ---- no fault is found
 

@@ -1,6 +1,5 @@
 pub mod Parts
 pub mod Places
-pub mod Limits
 pub mod Counter
 pub mod Batches
 pub mod Message

@@ -76,7 +76,7 @@ fn put_batch(
     put_bytes(size, &encrypted, out);
 }
 
-// Combines the message from `at` to `end` with the stream.
+// Combines the message from `at` to `end` with the stream. The index is the message's and the output's, and that of the stream from `at` on.
 fn combine(stream: &[u8], at: usize, end: usize, message: &[u8], out: &mut [u8])
     requires { (at ≤ end) × (end ≤ length message.now) × (end ≤ length out.old) × (end ≤ at + length stream.now) }
     ensures { Written at end (λ j. xor (get_or message.now j 0) (get_or stream.now (j - at) 0)) out.old out.new }

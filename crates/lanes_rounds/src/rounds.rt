@@ -197,7 +197,7 @@ impl Way for Back {
     ghost none = { λ v irs keys a b m. backward_none v irs keys a b rounds m };
 }
 
-// All rounds, in turns of TURN.
+// All rounds, in turns of TURN. The buffers stay two parameters, so that they are known to be apart.
 pub fn run<D: Way, W: Width, const TURN: u8>(
     a: &mut [u64],
     b: &mut [u64],
