@@ -6,14 +6,23 @@ ghost use Rattle.std.specs.Prelude.{◌≡◌, ◌≤◌, length};
 ghost use Rattle.script.specs.Pieces.{on_bytes, all_taken, answered_as, written_to, piece_length, output_length};
 
 use script::{Answered, OUTPUT, PIECE, Script};
+use std::fmt;
 use std::io::{Read, Write};
 
-// The script, and how it goes on.
-#[derive(Clone, Copy)]
-struct State {
-    script: Script,
-    is_input_open: bool,
-    has_failed: bool,
+// What ends a run before its input does.
+#[derive(Clone, Copy, Debug)]
+enum Failure {
+    Input,
+    Output,
+}
+
+impl fmt::Display for Failure {
+    fn fmt<W: fmt::Write>(&self, f: &mut fmt::Formatter<W>) -> fmt::Result {
+        match self {
+            Failure::Input => write!(f, "standard input could not be read"),
+            Failure::Output => write!(f, "standard output could not be written"),
+        }
+    }
 }
 
 fn output() -> [u8; OUTPUT]
@@ -22,22 +31,8 @@ fn output() -> [u8; OUTPUT]
     [0; OUTPUT]
 }
 
-// Says on standard error what has failed; that this can fail too is left at that.
-fn say(rt: &HostRuntime, words: &[u8]) {
-    let _ = rt.stderr().write_all(words);
-}
-
-// Writes the first bytes of an output; false where that fails.
-fn write(rt: &HostRuntime, out: &[u8], count: usize) -> bool
-    requires { count ≤ length out.now }
-{
-    match rt.stdout().write_all(&out[..count]) {
-        Ok(()) => true,
-        Err(_) => {
-            say(rt, b"katan-bench: standard output could not be written\n");
-            false
-        }
-    }
+fn write(rt: &HostRuntime, lines: &[u8]) -> Result<(), Failure> {
+    rt.stdout().write_all(lines).map_err(|_| Failure::Output)
 }
 
 // All of a piece: the output has room for every line that ends in it.
@@ -49,62 +44,40 @@ fn answer_all(script: Script, piece: &[u8], out: &mut [u8]) -> Answered
 }
 
 // Reads a piece and answers it, before the next read may wait: a driver waits for each answer.
-fn turn(rt: &HostRuntime, script: Script, out: &mut [u8]) -> State
+// `None` is the end of the input.
+fn turn(rt: &HostRuntime, script: Script, out: &mut [u8]) -> Result<Option<Script>, Failure>
     requires { output_length ≡ length out.old }
 {
-    let mut piece = [0u8; PIECE];
-    match rt.stdin().read(&mut piece) {
-        Err(_) => {
-            say(rt, b"katan-bench: standard input could not be read\n");
-            State {
-                script,
-                is_input_open: false,
-                has_failed: true,
-            }
-        }
-        Ok(0) => State {
-            script,
-            is_input_open: false,
-            has_failed: false,
-        },
-        Ok(n) => {
-            let answered = answer_all(script, &piece[..n], out);
-            let next = answered.script;
-            let is_written = write(rt, out, answered.count);
-            State {
-                script: next,
-                is_input_open: true,
-                has_failed: !is_written,
-            }
-        }
-    }
+    let mut piece = [0; PIECE];
+    let n = match rt.stdin().read(&mut piece) {
+        Err(_) => return Err(Failure::Input),
+        Ok(0) => return Ok(None),
+        Ok(n) => n,
+    };
+    let answered = answer_all(script, &piece[..n], out);
+    write(rt, &out[..answered.count])?;
+    Ok(Some(answered.script))
 }
 
-// The turns are counted down, so that the loop ends; they are more than any input has pieces.
-fn run(rt: &HostRuntime, script: Script, out: &mut [u8]) -> State
+// The turns are counted, so that the loop ends; they are more than any input has pieces.
+fn run(rt: &HostRuntime, out: &mut [u8]) -> Result<(), Failure>
     requires { output_length ≡ length out.old }
 {
-    let mut state = State {
-        script,
-        is_input_open: true,
-        has_failed: false,
-    };
-    let mut turns = u64::MAX;
-    while 0 < turns && state.is_input_open && !state.has_failed {
-        let now = state.script;
-        state = turn(rt, now, out);
-        turns -= 1;
+    let mut script = script::start();
+    for _ in 0..u64::MAX {
+        match turn(rt, script, out)? {
+            Some(next) => script = next,
+            None => break,
+        }
     }
-    state
+    let printed = script::finish(script);
+    write(rt, &printed.bytes[..printed.length])
 }
 
 fn main(rt: HostRuntime) {
     let mut out = output();
-    let last = run(&rt, script::start(), &mut out);
-    let now = last.script;
-    if !last.has_failed {
-        let printed = script::finish(now);
-        let bytes = printed.bytes;
-        write(&rt, &bytes, printed.length);
+    if let Err(failure) = run(&rt, &mut out) {
+        // That this can fail too is left at that.
+        let _ = eprintln!(rt; "katan-bench: {failure}");
     }
 }
