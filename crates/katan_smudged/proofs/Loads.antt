@@ -6,7 +6,7 @@ use Prim.Native.Nat.{ℕ, ◌+◌, ◌*◌, ◌%◌, ◌^◌, ◌<◌}
 use native.Mathlib.Nat.{zero-add}
 use lib.ListN.{length, get_or}
 use Rattle.katan.specs.Bit.{bit, pick}
-use Rattle.katan.specs.Clock.{block, registers}
+use Rattle.katan.specs.Clock.{block}
 use Rattle.katan.specs.Key.{key_length, k_at, round_keys}
 use Rattle.katan.specs.Variant.{row_of, width_of, is_katan}
 use Rattle.katan.specs.inner.Within.{Sound, RegistersFit as NumbersFit}
@@ -57,11 +57,6 @@ key_holds v key f c =
         ∙ k_low xor_three is0 (bits_given key_length key) (length-given key_length key) i q
         ∙ bit_is i q
     source_is i q false = bit_is i q
-
--- both words' registers
-pub registers_are : (v : Row) (k : Known ℕ) (o z : Registers) → o ≡ registers v k.ones → z ≡ registers v k.zeros
-    → record { l1 = record { ones = o.l1; zeros = z.l1 }; l2 = record { ones = o.l2; zeros = z.l2 } } ≡ registers_words v k
-registers_are v k o z e f = rw (e, f)
 
 module _ (v : Row) (t : Sound v) (k : Known ℕ) (f : Fit v.n k) where
   pub loaded_fits : RegistersFit v (registers_words v k)

@@ -19,16 +19,12 @@ use Rattle.katan_keys.specs.Window.{slid, window_number}
 use Rattle.katan_keys.proofs.Running.{slid_lt, slid_bits}
 use Rattle.katan_sheet.specs.Three.{Three, is0, xor_three, known}
 use Rattle.katan_sheet.specs.Sheet.{one_of, zero_of}
-use Rattle.katan_smudged.specs.inner.Words.{following, Tables, known_words, source_bit, input_from, input_words, source_bits, following_in, next_source, Reads, Holds, source_at, Follows}
+use Rattle.katan_smudged.specs.inner.Words.{following, Tables, known_words, source_bit, input_words, source_bits, following_in, next_source, Reads, Holds, source_at, Follows}
 use Rattle.katan_sheet.specs.declared.Known.{Known}
 use Rattle.katan_keys.specs.declared.Window.{Window}
 use Rattle.katan_smudged.proofs.Places.{term_sums, plus_sums, settled_reads, from_reads}
 
 -- ---- the input of a round
-
-pub input_made : (t x : ℕ) (w : Known Window) (i j : ℕ) (ka kb : Known ℕ) → x ≡ t → ka ≡ source_bit w i → kb ≡ source_bit w j
-    → record { ir = known_words (ir_of x); ka = ka; kb = kb } ≡ input_from t w i j
-input_made t x w i j ka kb e f g = rw (e, f, g)
 
 -- a bit by itself
 bit_alone : (x i : ℕ) → bit (bit x i) 0 ≡ bit x i
@@ -158,6 +154,3 @@ module _ (w : Known Window) (ones_low : w.ones.low < 2 ^ 64) (zeros-low : w.zero
 pub katan_next : (v : ℕ) (w r : Known Window) (e : Known ℕ) → is_katan v ≡ true → e ≡ following_in w
     → window_number r.ones ≡ slid 1 e.ones (window_number w.ones) → window_number r.zeros ≡ slid 1 e.zeros (window_number w.zeros) → source_bits r ≡ next_source v w
 katan_next v w r e k f g h = rw (k, g, h, f)
-
-pub ktantan_next : (v : ℕ) (w : Known Window) → is_katan v ≡ false → source_bits w ≡ next_source v w
-ktantan_next v w k = rw k

@@ -82,7 +82,8 @@ fn round_of<W: Width>(variant: u8, tables: &Tables, r: usize, h: Running) -> Run
     }
 }
 
-// The rounds from position 0 to a later one: what the registers hold then.
+// The rounds from position 0 to a later one, at most the last: what the registers hold then. The three functions that ask this of `to` only
+// hand it on: a type of such positions would be no plainer.
 fn run_at<W: Width>(variant: u8, start: Running, to: RoundPosition) -> KnownRegisters
     requires { (W.Width.row ≡ row_of variant) × (to.0 ≤ rounds) }
     ensures { Runs variant start.registers start.source to.0 result }
