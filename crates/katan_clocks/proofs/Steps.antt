@@ -48,26 +48,28 @@ round_goes = by_row (λ v. v.clocks ≤ v.x5 + 1) (omega arith) (omega arith) (o
 abbrev Near : Row → ℕ → Type 0
 Near v n = (n + v.x3 ≤ v.x1) × (n + v.y3 ≤ v.y1)
 
-three_rounds : (v : Row) → IsRow v → (Near v (stride_clocks v) → ⊥) → v.clocks + v.clocks + v.clocks ≡ stride_clocks v
+three_rounds : (v : Row) → IsRow v → (Near v (stride_clocks v) → ⊥) → v.clocks + (v.clocks + v.clocks) ≡ stride_clocks v
 three_rounds =
-    by_row (λ v. (Near v (stride_clocks v) → ⊥) → v.clocks + v.clocks + v.clocks ≡ stride_clocks v)
+    by_row (λ v. (Near v (stride_clocks v) → ⊥) → v.clocks + (v.clocks + v.clocks) ≡ stride_clocks v)
     (λ no. absurd (no (omega arith, omega arith)))
     (λ no. refl)
     (λ no. refl)
 
 -- a stride of n clocks on a row r that is v, where they cannot be undone at once, is three rounds
-pub in_rounds : (v : Row) → IsRow v → (r : Row) (n : ℕ) → r ≡ v → n ≡ stride_clocks v → (Near r n → ⊥) → v.clocks + v.clocks + v.clocks ≡ stride_clocks v
+pub in_rounds : (v : Row) → IsRow v → (r : Row) (n : ℕ) → r ≡ v → n ≡ stride_clocks v → (Near r n → ⊥) → v.clocks + (v.clocks + v.clocks) ≡ stride_clocks v
 in_rounds v k r n e d never = three_rounds v k (λ h. never (subst (λ (m : ℕ). Near r m) (sym d) (subst (λ (x : Row). Near x (stride_clocks v)) (sym e) h)))
 
 -- three steps back of c clocks each
 pub undone_in_three : (v r : Row) (e : r ≡ v) (c : ℕ) (w w₁ w₂ : RoundInput) (s a b d : Registers)
-    → w₁ ≡ without c w → w₂ ≡ without (c + c) w → a ≡ unclocks_by r c w s → b ≡ unclocks_by r c w₁ a → d ≡ unclocks_by r c w₂ b
-    → d ≡ unclocks_by v (c + c + c) w s
+    → w₁ ≡ without c w → w₂ ≡ without c w₁ → a ≡ unclocks_by r c w s → b ≡ unclocks_by r c w₁ a → d ≡ unclocks_by r c w₂ b
+    → d ≡ unclocks_by v (c + (c + c)) w s
 undone_in_three v r e c w w₁ w₂ s a b d i j f g h =
     h
-    ∙ ap₂ (unclocks_by r c) j (g ∙ ap₂ (unclocks_by r c) i f ∙ sym (undone_in_two r c c w s))
-    ∙ sym (undone_in_two r (c + c) c w s)
-    ∙ ap (λ (x : Row). unclocks_by x (c + c + c) w s) e
+    ∙ ap₂ (unclocks_by r c) j g
+    ∙ sym (undone_in_two r c c w₁ a)
+    ∙ ap₂ (unclocks_by r (c + c)) i f
+    ∙ sym (undone_in_two r c (c + c) w s)
+    ∙ ap (λ (x : Row). unclocks_by x (c + (c + c)) w s) e
 
 -- a round: c clocks on a row r that is v
 module _ (v r : Row) (e : r ≡ v) (c : ℕ) (d : c ≡ v.clocks) (u w : RoundInput) (f : w ≡ in_each c u) (s t : Registers) where

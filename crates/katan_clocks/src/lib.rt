@@ -9,7 +9,7 @@ ghost use Rattle.katan.specs.Sizes.{word_bits};
 ghost use Rattle.katan.specs.inner.Within.{Sound};
 ghost use Rattle.katan_clocks.specs.Clocks.{lowest, clocks_by, unclocks_by};
 ghost use Rattle.katan.specs.Stride.{stride_clocks};
-ghost use Rattle.katan_clocks.specs.inner.Words.{tap as tap_of, enter as enter_of, restore as restore_of, without as without_of, in_each};
+ghost use Rattle.katan_clocks.specs.inner.Words.{tap as tap_of, enter, restore, without, in_each};
 
 use katan::{Registers, RoundInput, Row};
 use katan_variants::Width;
@@ -80,14 +80,22 @@ impl Clocks {
                 ^ w.kb)
     }
 
+    // A register of n bits shifts left, and as many of the lowest bits of b enter it.
+    fn enter(self, n: usize, l: u64, b: u64) -> u64
+        requires { n < word_bits }
+        ensures { result ≡ enter n self.count l b }
+    {
+        ((l << self.count) + b % (1 << self.count)) % (1 << n)
+    }
+
     fn go(self, w: RoundInput, s: Registers) -> Registers
         ensures { result ≡ clocks_by self.row self.count w s }
     {
         let a = self.fa(s.l1, w);
         let b = self.fb(s.l2, w);
         Registers {
-            l1: enter(self.row.len1, self.count, s.l1, b),
-            l2: enter(self.row.len2, self.count, s.l2, a),
+            l1: self.enter(self.row.len1, s.l1, b),
+            l2: self.enter(self.row.len2, s.l2, a),
         }
     }
 
@@ -111,6 +119,14 @@ impl Clocks {
             ^ w.kb
     }
 
+    // A register of n bits shifts right, and as many of the lowest bits of t stand at its highest places.
+    fn restore(self, n: usize, l: u64, t: u64) -> u64
+        requires { (n < word_bits) × (self.count ≤ n) }
+        ensures { result ≡ restore n self.count l t }
+    {
+        ((t % (1 << self.count)) << (n - self.count)) + (l >> self.count)
+    }
+
     // Whether the clocks can be undone at once: not where the next tap stands too near the highest.
     fn can_go_back(self) -> bool
         ensures { IsTrue result ↔ (self.count + self.row.x3 ≤ self.row.x1) × (self.count + self.row.y3 ≤ self.row.y1) }
@@ -126,50 +142,32 @@ impl Clocks {
         let a = s.l2 ^ self.fa_rest(s.l1, w);
         let b = s.l1 ^ self.fb_rest(s.l2, w);
         Registers {
-            l1: restore(self.row.len1, self.count, s.l1, a),
-            l2: restore(self.row.len2, self.count, s.l2, b),
+            l1: self.restore(self.row.len1, s.l1, a),
+            l2: self.restore(self.row.len2, s.l2, b),
         }
     }
-}
 
-// A register of n bits shifts left by c, and the lowest c bits of b enter it.
-fn enter(n: usize, c: usize, l: u64, b: u64) -> u64
-    requires { (n < word_bits) × (c < word_bits) }
-    ensures { result ≡ enter_of n c l b }
-{
-    ((l << c) + b % (1 << c)) % (1 << n)
-}
-
-// A register of n bits shifts right by c, and the lowest c bits of t stand at its highest places.
-fn restore(n: usize, c: usize, l: u64, t: u64) -> u64
-    requires { (n < word_bits) × (1 ≤ c) × (c ≤ n) }
-    ensures { result ≡ restore_of n c l t }
-{
-    ((t % (1 << c)) << (n - c)) + (l >> c)
-}
-
-// The words without their lowest c places.
-fn without(c: usize, w: RoundInput) -> RoundInput
-    requires { c < word_bits }
-    ensures { result ≡ without_of c w }
-{
-    RoundInput {
-        ir: w.ir >> c,
-        ka: w.ka >> c,
-        kb: w.kb >> c,
+    // The words of the clocks before these.
+    fn without(self, w: RoundInput) -> RoundInput
+        ensures { result ≡ without self.count w }
+    {
+        RoundInput {
+            ir: w.ir >> self.count,
+            ka: w.ka >> self.count,
+            kb: w.kb >> self.count,
+        }
     }
-}
 
-// One round's input, in each of its c clocks.
-fn in_each(c: usize, u: RoundInput) -> RoundInput
-    requires { c < word_bits }
-    ensures { result ≡ in_each c u }
-{
-    let all = (1 << c) - 1;
-    RoundInput {
-        ir: u.ir % 2 * all,
-        ka: u.ka % 2 * all,
-        kb: u.kb % 2 * all,
+    // One round's input, in each of the clocks.
+    fn in_each(self, u: RoundInput) -> RoundInput
+        ensures { result ≡ in_each self.count u }
+    {
+        let all = (1 << self.count) - 1;
+        RoundInput {
+            ir: u.ir % 2 * all,
+            ka: u.ka % 2 * all,
+            kb: u.kb % 2 * all,
+        }
     }
 }
 
@@ -189,11 +187,9 @@ pub fn unstride<W: Width>(w: RoundInput, s: Registers) -> Registers
         return all.go_back(w, s);
     }
     let one = Clocks::of_round::<W>();
-    let c = one.count;
-    one.go_back(
-        without(2 * c, w),
-        one.go_back(without(c, w), one.go_back(w, s)),
-    )
+    let second = one.without(w);
+    let first = one.without(second);
+    one.go_back(first, one.go_back(second, one.go_back(w, s)))
 }
 
 // One round, with the lowest bits of its input.
@@ -201,7 +197,7 @@ pub fn round<W: Width>(u: RoundInput, s: Registers) -> Registers
     ensures { result ≡ round_of W.Width.row (lowest u) s }
 {
     let one = Clocks::of_round::<W>();
-    one.go(in_each(one.count, u), s)
+    one.go(one.in_each(u), s)
 }
 
 // The same undone.
@@ -209,5 +205,5 @@ pub fn unround<W: Width>(u: RoundInput, s: Registers) -> Registers
     ensures { result ≡ unround_of W.Width.row (lowest u) s }
 {
     let one = Clocks::of_round::<W>();
-    one.go_back(in_each(one.count, u), s)
+    one.go_back(one.in_each(u), s)
 }

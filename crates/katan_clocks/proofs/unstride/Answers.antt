@@ -15,6 +15,5 @@ returns g c =
     let one = c.of_round-one in
     let n = one.result.count in
     let no : (all.result.count + all.result.row.x3 ≤ all.result.row.x1) × (all.result.count + all.result.row.y3 ≤ all.result.row.y1) → ⊥ = λ h. search rules in
-    let twice : 2 * n ≡ n + n = omega arith in
-    undone_in_three v _ one.ensures.row n a.w _ _ a.s _ _ _ c.without-2.ensures (c.without.ensures ∙ ap (λ (m : ℕ). without m a.w) twice) c.go_back-2.ensures c.go_back-3.ensures c.go_back-4.ensures
-    ∙ ap (λ (m : ℕ). unclocks_by v m a.w a.s) (ap (λ (m : ℕ). m + m + m) one.ensures.count ∙ in_rounds v g.W.Width.known _ _ all.ensures.row all.ensures.count no)
+    undone_in_three v _ one.ensures.row n a.w _ _ a.s _ _ _ c.without-second.ensures c.without-first.ensures c.go_back-2.ensures c.go_back-3.ensures c.go_back-4.ensures
+    ∙ ap (λ (m : ℕ). unclocks_by v m a.w a.s) (ap (λ (m : ℕ). m + (m + m)) one.ensures.count ∙ in_rounds v g.W.Width.known _ _ all.ensures.row all.ensures.count no)
