@@ -7,6 +7,7 @@ ghost use Rattle.script_command.specs.Answer.{line_outcome, command_answer};
 use katan::Key;
 
 mod lines;
+mod reader;
 
 // How many bytes a line has at most, without its line feed.
 pub const LINE_LENGTH: usize = 120;

@@ -3,6 +3,7 @@
 ghost use Rattle.std.specs.Prelude.{◌≡◌, slice_index};
 ghost use Rattle.script_command.specs.scanner.Reading.{IsMove, bench_in, read_in, load_in, move_in, clear_in, record_as, record_in, command_in};
 
+use crate::reader::Reader;
 use crate::{Command, LINE_LENGTH};
 use katan::Key;
 use katan_numbers::byte_at;
@@ -68,7 +69,7 @@ fn clear_in(line: &[u8], offset: usize, number: u32) -> Option<Command>
 }
 
 // The command of a record line, of which the rest begins with a letter after its number.
-fn record_as(line: &[u8], offset: usize, number: u32, variant: u8) -> Option<Command>
+pub fn record_as(line: &[u8], offset: usize, number: u32, variant: u8) -> Option<Command>
     ensures { result ≡ record_as variant line.now offset number (slice_index line.now offset) }
 {
     match byte_at(line, offset) {
@@ -100,7 +101,11 @@ fn record_in(line: &[u8], variant: u8) -> Option<Command>
 {
     let front = fields_at(b"(# (", line, 0, 0)?;
     let [number, ..] = front.values.words;
-    record_as(line, front.offset, number as u32, variant)
+    let rest = Reader {
+        line,
+        offset: front.offset,
+    };
+    rest.record(number as u32, variant)
 }
 
 // The letter after the first parenthesis chooses: b; on an open bench also r, or a record's number.
@@ -111,7 +116,8 @@ pub fn command_in(variant: u8, line: &[u8]) -> Option<Command>
     if LINE_LENGTH < line.len() {
         return None;
     }
-    let letter = byte_at(line, 1);
+    let inside = Reader { line, offset: 1 };
+    let letter = inside.letter();
     if letter == b'b' {
         return bench_in(line);
     }
