@@ -123,6 +123,7 @@ pub fn answer(script: Script, piece: &[u8], out: &mut [u8]) -> Answered
     let mut now = script;
     let mut used: usize = 0;
     let mut count: usize = 0;
+    // A turn takes as many bytes as its line has, so no `for` goes over them.
     while used < piece.len() {
         let step = next_line(now, &piece[used..], out.len() - count);
         now = step.script;
