@@ -17,34 +17,13 @@ use katan_variants::{Bits32, Bits48, Bits64, Width};
 mod constants;
 mod rounds;
 
-// Stores `len` words, from words[at] on, into a buffer from `top` down.
-fn load(words: &[u64; WORD_BITS], at: usize, len: usize, l: &mut [u64], top: usize)
-    requires { (at + len ≤ word_bits) × (len ≤ top + 1) × (top < length l.old) }
-    ensures l_len_unchanged { length l.new ≡ length l.old }
-    ensures by_index { (i : ℕ) → i < len → get_or l.new (top - i) 0 ≡ get_or words.now (at + i) 0 }
+// Copies words, the last first.
+fn put_reversed(words: &[u64], out: &mut [u64])
+    requires { length out.old ≡ length words.now }
+    ensures { (i : ℕ) → i < length words.now → get_or out.new i 0 ≡ get_or words.now (length words.now - 1 - i) 0 }
 {
-    let part = &mut l[top + 1 - len..top + 1];
-    part.copy_from_slice(&words[at..at + len]);
-    part.reverse();
-}
-
-// The words with `len` more, from words[at] on, that stand in a buffer from `top` down.
-fn unloaded(
-    words: [u64; WORD_BITS],
-    at: usize,
-    len: usize,
-    l: &[u64],
-    top: usize,
-) -> [u64; WORD_BITS]
-    requires { (at + len ≤ word_bits) × (len ≤ top + 1) × (top < length l.now) }
-    ensures by_index { (i : ℕ) → i < len → get_or result (at + i) 0 ≡ get_or l.now (top - i) 0 }
-    ensures by_index_2 { ((i : ℕ) → i < at → get_or result i 0 ≡ get_or words i 0) × ((i : ℕ) → at + len ≤ i → get_or result i 0 ≡ get_or words i 0) }
-{
-    let mut w = words;
-    let part = &mut w[at..at + len];
-    part.copy_from_slice(&l[top + 1 - len..top + 1]);
-    part.reverse();
-    w
+    out.copy_from_slice(words);
+    out.reverse();
 }
 
 // Places the words of the blocks' bits as the registers at a position.
@@ -55,8 +34,8 @@ fn place<W: Width>(words: &[u64; WORD_BITS], a: &mut [u64], b: &mut [u64], at: R
 {
     let v = row::<W>();
     let t = katan_variants::first_clock(v, at).0;
-    load(words, v.len2, v.len1, a, t + v.x1);
-    load(words, 0, v.len2, b, t + v.y1);
+    put_reversed(&words[..v.len2], &mut b[t..t + v.len2]);
+    put_reversed(&words[v.len2..v.n], &mut a[t..t + v.len1]);
 }
 
 // The words of the blocks' bits that stand as the registers at a position, and zeros above them.
@@ -67,8 +46,10 @@ fn words_at<W: Width>(a: &[u64], b: &[u64], at: RoundPosition) -> [u64; WORD_BIT
 {
     let v = row::<W>();
     let t = katan_variants::first_clock(v, at).0;
-    let words = unloaded([0u64; WORD_BITS], 0, v.len2, b, t + v.y1);
-    unloaded(words, v.len2, v.len1, a, t + v.x1)
+    let mut words = [0u64; WORD_BITS];
+    put_reversed(&b[t..t + v.len2], &mut words[..v.len2]);
+    put_reversed(&a[t..t + v.len1], &mut words[v.len2..v.n]);
+    words
 }
 
 // All rounds at one width, in buffers of FIRST and SECOND words. The row and TURN are constants, so that the loops are unrolled where the
