@@ -30,6 +30,7 @@ fn put_digits(out: &mut [u8], base: u64, value: u64)
     ensures { out.new ≡ fixed base (length out.old) value }
 {
     let mut left = value;
+    // By index: what `iter_mut().rev()` lends is not tied back to `out`, and the proof did not close.
     for i in (0..out.len()).rev() {
         out[i] = digit_of(left % base);
         left = left / base;
