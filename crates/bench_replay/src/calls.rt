@@ -12,7 +12,7 @@ pub enum Call<'a> {
     Read(usize),
 }
 
-// The length of an arrival's record, or the lane of a read.
+// The length of an arrival's record, or the lane of a read; `as`, since no `From` leads from u64 to usize.
 fn number_of(call: &[u8]) -> usize
     requires { head_length ≤ length call.now }
     ensures { result ≡ call_number call.now }

@@ -51,6 +51,7 @@ pub fn run(bench: Bench, link: Link, calls: &[u8], out: &mut [u8]) -> Bench
     let mut bench = bench;
     let mut link = link;
     let mut rest = calls;
+    // Where the next answer goes. Chunks of the output would not do: of what is written through them only its length is known.
     let mut to: usize = 0;
     while let Some((call, after)) = next_call(rest) {
         let next = transition(bench, link, call);
