@@ -16,7 +16,7 @@ use katan_variants::status;
 // The words lent for the answer to an arrival or a preview.
 const ARRIVAL_WORDS: usize = 3;
 
-// The first word of the answer to an arrival or a preview.
+// The first word of the answer to an arrival or a preview: C reads it as a number.
 const DONE: u32 = 0;
 
 const AGAIN: u32 = 1;

@@ -70,7 +70,7 @@ pub fn encrypt(variant: u8, key: &[u8], block: u64, out: &mut [u64]) -> u8
     status(put_words(variant, encrypted.map(one_word), out))
 }
 
-// Decrypts a block into the one word of `out`.
+// Decrypts a block into the one word of `out`. Each way is a call of its own, as in C.
 pub fn decrypt(variant: u8, key: &[u8], block: u64, out: &mut [u64]) -> u8
     ensures value { result ≡ status_of (decrypt_call variant key.now block out.old) }
     ensures out_after { out.new ≡ lent_after word (decrypt_call variant key.now block out.old) out.old }
@@ -87,7 +87,7 @@ pub fn encrypt_many(variant: u8, keys: &[u8], blocks: &[u64], out: &mut [u64]) -
     status(lanes::many(Direction::Encrypt, variant, keys, blocks, out))
 }
 
-// Decrypts 1 to 64 blocks.
+// Decrypts 1 to 64 blocks: a call of its own, as in C.
 pub fn decrypt_many(variant: u8, keys: &[u8], blocks: &[u64], out: &mut [u64]) -> u8
     ensures value { result ≡ status_of (many_answer variant keys.now blocks.now out.old) }
     ensures out_after { out.new ≡ many_of Decrypt variant keys.now blocks.now out.old }

@@ -238,13 +238,15 @@ fn run(rt: &HostRuntime, input: &[u8]) -> io::Result<()> {
     Ok(())
 }
 
+// In a function of its own, so that no proof of another computes so long a list.
 fn input_buffer() -> [u8; 1048576]
     ensures { 1048576 ≡ length result }
 {
     [0; 1048576]
 }
 
-// Reads until the input ends or the buffer is full, and says how many bytes were read.
+// Reads until the input ends or the buffer is full, and says how many bytes were read. The buffer is fixed, since nothing here allocates, and no method of
+// `Read` fills one that the input may end within.
 fn read_full(rt: &HostRuntime, buffer: &mut [u8]) -> io::Result<usize>
     ensures { IfOk result (λ n. n ≤ length buffer.new) }
 {
