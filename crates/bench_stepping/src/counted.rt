@@ -31,7 +31,7 @@ fn load(bench: Bench, fields: Record) -> Bench
     after
 }
 
-// The step that the kind names.
+// The step that the kind names: the record has it as a byte, so it is matched here, once.
 pub fn step(bench: Bench, fields: Record) -> BenchStep
     requires { SoundBench bench × (fields.lane < lane_count) }
     ensures { (result.bench ≡ with_slots bench (slots_as bench.variant (kind fields) fields bench.slots)) × (result.total ≡ total_as (kind fields) fields bench.slots) }

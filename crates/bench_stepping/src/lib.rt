@@ -14,7 +14,7 @@ use katan::Refusal;
 mod counted;
 
 // An arrival, with the link by value.
-pub fn arrive_once(bench: Bench, link: Link, sent: &[u8]) -> ArrivalResult
+fn arrive_core(bench: Bench, link: Link, sent: &[u8]) -> ArrivalResult
     ensures { effect_of result ≡ arrive_of bench link sent.now }
 {
     let found = bench_checks::decided(bench, link, sent);
@@ -53,7 +53,7 @@ pub fn arrive_once(bench: Bench, link: Link, sent: &[u8]) -> ArrivalResult
 pub fn arrive(bench: Bench, link: &mut Link, sent: &[u8]) -> LentArrivalResult
     ensures { effect_of (leaving result link.new) ≡ arrive_of bench link.old sent.now }
 {
-    let after = arrive_once(bench, *link, sent);
+    let after = arrive_core(bench, *link, sent);
     *link = after.link;
     LentArrivalResult {
         bench: after.bench,
@@ -61,7 +61,20 @@ pub fn arrive(bench: Bench, link: &mut Link, sent: &[u8]) -> LentArrivalResult
     }
 }
 
-// What a preview gives: the reply, and the copy with its 64 lanes.
+// For a caller with the link in a local: it is lent, and comes back.
+pub fn arrive_once(bench: Bench, link: Link, sent: &[u8]) -> ArrivalResult
+    ensures { effect_of result ≡ arrive_of bench link sent.now }
+{
+    let mut lent = link;
+    let after = arrive(bench, &mut lent, sent);
+    ArrivalResult {
+        bench: after.bench,
+        link: lent,
+        reply: after.reply,
+    }
+}
+
+// What a preview gives: the reply, and the copy with its 64 lanes, which a refused record leaves as they came.
 #[derive(Clone, Copy)]
 pub struct PreviewResult {
     pub bench: Bench,

@@ -5,7 +5,7 @@ use Rattle.bench.proofs.Turns.{counts_next}
 use Rattle.bench_record.proofs.Parts.{whole_record}
 use Rattle.bench_stepping.proofs.Effects.{counts_sound, counts_told, repeat_effect, refused_effect}
 use Rattle.bench_checks.specs.declared.Turn.TheVariants.{Counts, Repeats}
-use Rattle.bench_stepping.proofs.arrive_once.Goals as goal
+use Rattle.bench_stepping.proofs.arrive_core.Goals as goal
 
 pub step-after-requires : goal.step-after-requires
 step-after-requires c =
