@@ -36,8 +36,8 @@ fn write(rt: &HostRuntime, lines: &[u8]) -> Result<(), Failure> {
 }
 
 // All of a piece: the output has room for every line that ends in it.
-fn answer_all(script: Script, piece: &[u8], out: &mut [u8]) -> Answered
-    requires { (length piece.now ≤ piece_length) × (output_length ≡ length out.old) }
+fn answer_all(script: Script, piece: &[u8], out: &mut [u8; OUTPUT]) -> Answered
+    requires { length piece.now ≤ piece_length }
     ensures { (result ≡ answered_as (all_taken script piece.now)) × (out.new ≡ written_to out.old (on_bytes script piece.now).1) × (result.count ≤ length out.old) }
 {
     script::answer(script, piece, out)
@@ -45,9 +45,11 @@ fn answer_all(script: Script, piece: &[u8], out: &mut [u8]) -> Answered
 
 // Reads a piece and answers it, before the next read may wait: a driver waits for each answer.
 // `None` is the end of the input.
-fn turn(rt: &HostRuntime, script: Script, out: &mut [u8]) -> Result<Option<Script>, Failure>
-    requires { output_length ≡ length out.old }
-{
+fn turn(
+    rt: &HostRuntime,
+    script: Script,
+    out: &mut [u8; OUTPUT],
+) -> Result<Option<Script>, Failure> {
     let mut piece = [0; PIECE];
     let n = match rt.stdin().read(&mut piece) {
         Err(_) => return Err(Failure::Input),
@@ -60,9 +62,7 @@ fn turn(rt: &HostRuntime, script: Script, out: &mut [u8]) -> Result<Option<Scrip
 }
 
 // The turns are counted, so that the loop ends; they are more than any input has pieces.
-fn run(rt: &HostRuntime, out: &mut [u8]) -> Result<(), Failure>
-    requires { output_length ≡ length out.old }
-{
+fn run(rt: &HostRuntime, out: &mut [u8; OUTPUT]) -> Result<(), Failure> {
     let mut script = script::start();
     for _ in 0..u64::MAX {
         match turn(rt, script, out)? {

@@ -1,7 +1,8 @@
 use Prim.Native.Nat.{ℕ, ◌≤◌}
-use mathlib.Core.Path.{◌≡◌, sym, ap, ◌∙◌, subst⁻¹}
+use mathlib.Core.Path.{◌≡◌, ap, ◌∙◌, subst⁻¹}
 use lib.ListN.{length}
-use Rattle.script.specs.Pieces.{Taken, on_piece, all_taken, answered_as, written_to}
+use borrow.Author.Rules.{rules}
+use Rattle.script.specs.Pieces.{Taken, on_piece, all_taken, answered_as, written_to, output_length}
 use Rattle.script.specs.declared.Answered.{Answered}
 use Rattle.script.proofs.Taken.{every_piece, every_piece_read}
 use Rattle.program_bench.proofs.answer_all.Goals as goal
@@ -10,9 +11,10 @@ pub returns : goal.returns
 returns c =
     let out = c.args.out.now in
     let t = c.answer in
+    let room : length out ≡ output_length = search rules in
     let taken = on_piece (length out) c.args.script c.args.piece.now in
     let all : taken ≡ all_taken c.args.script c.args.piece.now =
-    ap (λ (n : ℕ). on_piece n c.args.script c.args.piece.now) (sym c.requires.1) ∙ every_piece_read c.args.script c.args.piece.now c.requires.0
+    ap (λ (n : ℕ). on_piece n c.args.script c.args.piece.now) room ∙ every_piece_read c.args.script c.args.piece.now c.requires
     in (
       t.ensures.0 ∙ ap answered_as all,
       t.ensures.1 ∙ ap (λ (u : Taken). written_to out u.output) all,
