@@ -44,7 +44,7 @@ pub enum Command {
     },
 }
 
-// The command that a line is written for, on an open bench of a variant; 0 is the variant where none is open.
+// The command that a line is written for, on an open bench of a variant; 0 is the variant where none is open, as command_answer in specs/ has it.
 #[tactic(auto, unfolding(crate::specs::Answer::command_answer))]
 pub fn command_in(variant: u8, line: &[u8]) -> Option<Command>
     ensures { line_outcome result ≡ command_answer variant line.now }

@@ -1,12 +1,10 @@
 // The reading of a line: its first bytes choose the form, and the rest is read by it. Of the forms only a load's has a block: the others are read
-// with no variant, 0.
-ghost use Rattle.std.specs.Prelude.{◌≡◌, slice_index};
-ghost use Rattle.script_command.specs.scanner.Reading.{IsMove, bench_in, read_in, load_in, move_in, clear_in, record_as, record_in, command_in};
+// with no variant, 0. A form's fields are within their types, as proved: so as loses nothing, where try_from would leave a case that is not met.
+ghost use Rattle.std.specs.Prelude.{◌≡◌};
+ghost use Rattle.script_command.specs.scanner.Reading.{bench_in, read_in, record_in, command_in};
 
 use crate::reader::Reader;
 use crate::{Command, LINE_LENGTH};
-use katan::Key;
-use katan_numbers::byte_at;
 use script_form::{fields_at, whole_at};
 
 #[tactic(auto, unfolding(crate::specs::scanner::Reading::bench_in))]
@@ -29,72 +27,6 @@ fn read_in(line: &[u8]) -> Option<Command>
     Some(Command::Read { lane: lane as u8 })
 }
 
-#[tactic(auto, unfolding(crate::specs::scanner::Reading::load_in))]
-fn load_in(line: &[u8], offset: usize, number: u32, variant: u8) -> Option<Command>
-    ensures { result ≡ load_in variant number line.now offset }
-{
-    let found = whole_at(b"load % % (key &) (block *)))", line, offset, variant)?;
-    let [lane, position, high, low, block, ..] = found.values.words;
-    let key = Key {
-        low,
-        high: high as u16,
-    };
-    Some(Command::Load {
-        number,
-        lane: lane as u8,
-        position: position as u8,
-        key,
-        block,
-    })
-}
-
-// The mask and the count of a move, of either direction.
-#[tactic(auto, unfolding(crate::specs::scanner::Reading::move_in))]
-fn move_in(form: &[u8], line: &[u8], offset: usize) -> Option<(u64, u8)>
-    requires { IsMove form.now }
-    ensures { result ≡ move_in form.now line.now offset }
-{
-    let found = whole_at(form, line, offset, 0)?;
-    let [mask, count, ..] = found.values.words;
-    Some((mask, count as u8))
-}
-
-#[tactic(auto, unfolding(crate::specs::scanner::Reading::clear_in))]
-fn clear_in(line: &[u8], offset: usize, number: u32) -> Option<Command>
-    ensures { result ≡ clear_in number line.now offset }
-{
-    let found = whole_at(b"clear (lanes $)))", line, offset, 0)?;
-    let [mask, ..] = found.values.words;
-    Some(Command::Clear { number, mask })
-}
-
-// The command of a record line, of which the rest begins with a letter after its number.
-pub fn record_as(line: &[u8], offset: usize, number: u32, variant: u8) -> Option<Command>
-    ensures { result ≡ record_as variant line.now offset number (slice_index line.now offset) }
-{
-    match byte_at(line, offset) {
-        b'l' => load_in(line, offset, number, variant),
-        b'f' => {
-            let (mask, count) = move_in(b"forward (lanes $) %))", line, offset)?;
-            Some(Command::Forward {
-                number,
-                mask,
-                count,
-            })
-        }
-        b'b' => {
-            let (mask, count) = move_in(b"back (lanes $) %))", line, offset)?;
-            Some(Command::Back {
-                number,
-                mask,
-                count,
-            })
-        }
-        b'c' => clear_in(line, offset, number),
-        _ => None,
-    }
-}
-
 #[tactic(auto, unfolding(crate::specs::scanner::Reading::record_in))]
 fn record_in(line: &[u8], variant: u8) -> Option<Command>
     ensures { result ≡ record_in variant line.now }
@@ -105,7 +37,7 @@ fn record_in(line: &[u8], variant: u8) -> Option<Command>
         line,
         offset: front.offset,
     };
-    rest.record(number as u32, variant)
+    rest.record_as(number as u32, variant)
 }
 
 // The letter after the first parenthesis chooses: b; on an open bench also r, or a record's number.
