@@ -35,7 +35,7 @@ pub struct LineResult {
     pub printed: Printed,
 }
 
-// The open bench's variant; 0 where none is open.
+// The open bench's variant; 0 where none is open, as command_answer of script_command/specs has it.
 fn variant_of(session: Session) -> u8
     ensures { result ≡ variant_of session }
 {
