@@ -1,5 +1,5 @@
 // The key words: bit j of key word i is bit i of lane j's key.
-ghost use Rattle.std.specs.Prelude.{◌≡◌, ℕ, ◌+◌, ◌*◌, ◌%◌, ◌^◌, ◌<◌, ◌≤◌, get_or, length};
+ghost use Rattle.std.specs.Prelude.{◌≡◌, ℕ, ◌*◌, ◌%◌, ◌^◌, ◌<◌, ◌≤◌, get_or, length};
 ghost use Rattle.katan.specs.Key.{key_length, key_number};
 ghost use Rattle.katan.specs.Sizes.{word_bits, key_bytes};
 ghost use Rattle.katan.specs.inner.Within.{Entries};
@@ -15,38 +15,57 @@ pub const HIGH_PLACE: usize = WORD_BITS - HIGH_BITS;
 
 const HIGH_UNIT: u64 = 1 << HIGH_PLACE;
 
-// The key of block i.
-fn block_key(keys: &[u8], i: usize) -> Key
-    requires { key_bytes * i + key_bytes ≤ length keys.now }
-    ensures { key_number result ≡ block_key keys.now i }
-{
-    let at = KEY_BYTES * i;
-    let end = at + KEY_BYTES;
-    katan_numbers::key_of(&keys[at..end])
+// The keys of a call, ten bytes each.
+#[derive(Clone, Copy)]
+pub struct Keys<'a> {
+    pub bytes: &'a [u8],
+    pub count: usize,
+    ghost few: { count ≤ word_bits },
+    ghost enough: { key_bytes * count ≤ length bytes.now },
 }
 
-// Bits 0 to 63 of each key. The index is a row's and a key's, whose bytes are ten.
-fn low_rows(keys: &[u8], n: usize) -> [u64; WORD_BITS]
-    requires { (n ≤ word_bits) × (key_bytes * n ≤ length keys.now) }
-    ensures { Entries (λ i. block_key keys.now i % 2 ^ word_bits) n result }
-{
-    let mut rows = [0u64; WORD_BITS];
-    for i in 0..n {
-        rows[i] = block_key(keys, i).low;
+impl Keys<'_> {
+    // The key of block i.
+    fn block_key(&self, i: usize) -> Key
+        requires { i < self.now.count }
+        ensures { key_number result ≡ block_key self.now.bytes.now i }
+    {
+        let at = KEY_BYTES * i;
+        let end = at + KEY_BYTES;
+        katan_numbers::key_of(&self.bytes[at..end])
     }
-    rows
-}
 
-// The blocks as rows, with bits 64 to 79 of each key in bits 48 to 63: so those need no matrix of their own beside blocks of up to 48 bits.
-pub fn with_high(blocks: &[u64], keys: &[u8], n: usize) -> [u64; WORD_BITS]
-    requires { (n ≤ word_bits) × (n ≤ length blocks.now) × (key_bytes * n ≤ length keys.now) × ((i : ℕ) → i < n → get_or blocks.now i 0 < 2 ^ high_place) }
-    ensures { Entries (λ i. with_high (block_key keys.now i) (get_or blocks.now i 0)) n result }
-{
-    let mut rows = [0u64; WORD_BITS];
-    for i in 0..n {
-        rows[i] = u64::from(block_key(keys, i).high) * HIGH_UNIT + blocks[i];
+    // Bits 0 to 63 of each key.
+    fn low_rows(&self) -> [u64; WORD_BITS]
+        ensures { Entries (λ i. block_key self.now.bytes.now i % 2 ^ word_bits) self.now.count result }
+    {
+        let mut rows = [0u64; WORD_BITS];
+        for (i, row) in rows[..self.count].iter_mut().enumerate() {
+            *row = self.block_key(i).low;
+        }
+        rows
     }
-    rows
+
+    // The blocks as rows, with bits 64 to 79 of each key in bits 48 to 63: so those need no matrix of their own beside blocks of up to 48 bits.
+    pub fn with_high(&self, blocks: &[u64]) -> [u64; WORD_BITS]
+        requires { (self.now.count ≤ length blocks.now) × ((i : ℕ) → i < self.now.count → get_or blocks.now i 0 < 2 ^ high_place) }
+        ensures { Entries (λ i. with_high (block_key self.now.bytes.now i) (get_or blocks.now i 0)) self.now.count result }
+    {
+        let mut rows = [0u64; WORD_BITS];
+        for (i, row) in rows[..self.count].iter_mut().enumerate() {
+            *row = u64::from(self.block_key(i).high) * HIGH_UNIT + blocks[i];
+        }
+        rows
+    }
+
+    // `high` has bits 64 to 79 of the keys in its words 48 to 63.
+    pub fn key_words(&self, high: &[u64; WORD_BITS]) -> [u64; KEY_BITS]
+        requires { HighLanes (block_key self.now.bytes.now) self.now.count high.now }
+        ensures { KeyLanes (block_key self.now.bytes.now) self.now.count result }
+    {
+        let low = lanes_transpose::transpose(self.low_rows());
+        joined(&low, high)
+    }
 }
 
 // The words of the whole keys.
@@ -57,13 +76,4 @@ fn joined(low: &[u64; WORD_BITS], high: &[u64; WORD_BITS]) -> [u64; KEY_BITS]
     words[..WORD_BITS].copy_from_slice(low);
     words[WORD_BITS..].copy_from_slice(&high[HIGH_PLACE..]);
     words
-}
-
-// `high` has bits 64 to 79 of the keys in its words 48 to 63.
-pub fn key_words(keys: &[u8], n: usize, high: &[u64; WORD_BITS]) -> [u64; KEY_BITS]
-    requires { (n ≤ word_bits) × (key_bytes * n ≤ length keys.now) × HighLanes (block_key keys.now) n high.now }
-    ensures { KeyLanes (block_key keys.now) n result }
-{
-    let low = lanes_transpose::transpose(low_rows(keys, n));
-    joined(&low, high)
 }

@@ -12,7 +12,7 @@ ghost use Rattle.lanes_rounds.specs.Words.{lane_block};
 ghost use Rattle.lanes.specs.Many.{block_key, one_block, any, many_answer, many_of};
 ghost use Rattle.lanes.specs.inner.Words.{HighLanes, all_rounds};
 
-use crate::keys::{HIGH_PLACE, key_words, with_high};
+use crate::keys::{HIGH_PLACE, Keys};
 use katan::{KEY_BYTES, LANES, ROUND_KEYS, Refusal, WORD_BITS};
 
 mod keys;
@@ -53,7 +53,7 @@ struct Call<'a> {
     direction: Direction,
     variant: u8,
     n: usize,
-    keys: &'a [u8],
+    keys: Keys<'a>,
     ghost width: { n ≡ width_of variant },
 }
 
@@ -66,6 +66,7 @@ impl Call<'_> {
     ) -> [u64; WORD_BITS]
         ensures { result ≡ all_rounds self.now.direction self.now.n round_keys.now words.now }
     {
+        // Direction is public, and many_of speaks of it: it is matched here alone, and the step itself is a type parameter.
         match self.direction {
             Direction::Encrypt => lanes_rounds::encrypted(self.n, round_keys, words),
             Direction::Decrypt => lanes_rounds::decrypted(self.n, round_keys, words),
@@ -73,34 +74,28 @@ impl Call<'_> {
     }
 
     // From the words of the blocks to the results as rows. `high` has bits 64 to 79 of the keys in its words 48 to 63.
-    fn rows_from_words(
-        &self,
-        count: usize,
-        words: &[u64; WORD_BITS],
-        high: &[u64; WORD_BITS],
-    ) -> [u64; WORD_BITS]
-        requires { (count ≤ word_bits) × (key_bytes * count ≤ length self.now.keys.now) × HighLanes (block_key self.now.keys.now) count high.now }
-        ensures { Entries (λ j. one_block self.now.direction self.now.variant (block_key self.now.keys.now j) (lane_block (row_of self.now.variant) words.now j)) count result }
+    fn rows_from_words(&self, words: &[u64; WORD_BITS], high: &[u64; WORD_BITS]) -> [u64; WORD_BITS]
+        requires { HighLanes (block_key self.now.keys.bytes.now) self.now.keys.count high.now }
+        ensures { Entries (λ j. one_block self.now.direction self.now.variant (block_key self.now.keys.bytes.now j) (lane_block (row_of self.now.variant) words.now j)) self.now.keys.count result }
     {
-        let round_keys = lanes_keys::round_words(self.variant, key_words(self.keys, count, high));
+        let round_keys = lanes_keys::round_words(self.variant, self.keys.key_words(high));
         lanes_transpose::transpose(self.all_rounds(&round_keys, words))
     }
 
     // The results, as rows.
     fn result_rows(&self, blocks: &[u64]) -> [u64; WORD_BITS]
-        requires lengths { (length blocks.now ≤ word_bits) × (key_bytes * length blocks.now ≤ length self.now.keys.now) }
-        requires by_index { (i : ℕ) → i < length blocks.now → get_or blocks.now i 0 < 2 ^ self.now.n }
-        ensures { Entries (λ i. one_block self.now.direction self.now.variant (block_key self.now.keys.now i) (get_or blocks.now i 0)) (length blocks.now) result }
+        requires same_count { length blocks.now ≡ self.now.keys.count }
+        requires by_index { (i : ℕ) → i < self.now.keys.count → get_or blocks.now i 0 < 2 ^ self.now.n }
+        ensures { Entries (λ i. one_block self.now.direction self.now.variant (block_key self.now.keys.bytes.now i) (get_or blocks.now i 0)) self.now.keys.count result }
     {
-        let count = blocks.len();
         if self.n <= HIGH_PLACE {
-            let words = lanes_transpose::transpose(with_high(blocks, self.keys, count));
-            self.rows_from_words(count, &words, &words)
+            let words = lanes_transpose::transpose(self.keys.with_high(blocks));
+            self.rows_from_words(&words, &words)
         } else {
             let words = lanes_transpose::transpose(rows_of(blocks));
             let zeros = [0u64; WORD_BITS];
-            let high = lanes_transpose::transpose(with_high(&zeros, self.keys, count));
-            self.rows_from_words(count, &words, &high)
+            let high = lanes_transpose::transpose(self.keys.with_high(&zeros));
+            self.rows_from_words(&words, &high)
         }
     }
 }
@@ -128,7 +123,10 @@ pub fn many(
         direction,
         variant,
         n: row.n,
-        keys,
+        keys: Keys {
+            bytes: keys,
+            count: n,
+        },
     };
     let rows = call.result_rows(blocks);
     out.copy_from_slice(&rows[..n]);

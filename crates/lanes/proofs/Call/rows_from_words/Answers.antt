@@ -9,5 +9,5 @@ returns c =
     let key = c.key_words in
     let keys = c.round_words-round_keys in
     let to = c.all_rounds in
-    block_rows a.self.now.direction a.self.now.variant a.self.now.n a.self.now.width (block_key a.self.now.keys.now) a.count c.requires.0 key.result keys.result a.words.now to.result c.transpose.result
+    block_rows a.self.now.direction a.self.now.variant a.self.now.n a.self.now.width (block_key a.self.now.keys.bytes.now) a.self.now.keys.count a.self.now.keys.few key.result keys.result a.words.now to.result c.transpose.result
     (search (rules, key.type_inv)) key.ensures keys.ensures to.ensures c.transpose.ensures
