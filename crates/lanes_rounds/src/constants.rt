@@ -1,7 +1,7 @@
 // The numbers that lengths and loops go by, and the table of IR words.
 use katan::ROUND_COUNT;
 
-// The clocks a round of each width, as its row has them: here they are constants, as the lengths want.
+// The clocks a round of each width, as its row has them: here they are constants, since a length can't be computed from a type parameter.
 const CLOCKS_32: usize = 1;
 
 const CLOCKS_48: usize = 2;

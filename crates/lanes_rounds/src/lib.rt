@@ -71,7 +71,7 @@ fn all_rounds<D: Way, W: Width, const TURN: u8, const FIRST: usize, const SECOND
     words_at::<W>(&a, &b, RoundPosition(D::TO))
 }
 
-// All rounds for blocks of n bits: 32, 48, and 64 for any other number.
+// All rounds for blocks of n bits: 32, 48, and 64 for any other number. n, keys and words are the arguments of encrypted and decrypted.
 fn at_width<D: Way>(
     n: usize,
     keys: &[u64; ROUND_KEYS],
@@ -86,7 +86,8 @@ fn at_width<D: Way>(
     }
 }
 
-// All rounds forward, for blocks of n bits: 32, 48, and 64 for any other number.
+// All rounds forward, for blocks of n bits: 32, 48, and 64 for any other number. This and `decrypted` are the two ways of at_width, as
+// lanes calls them.
 pub fn encrypted(n: usize, keys: &[u64; ROUND_KEYS], words: &[u64; WORD_BITS]) -> [u64; WORD_BITS]
     ensures { result ≡ all_rounds_run n keys.now words.now }
 {

@@ -26,7 +26,7 @@ pub fn row<W: Width>() -> Row
     W::row()
 }
 
-// Bit i of the register whose newest word stands at p.
+// Bit i of the register whose newest word stands at p. l and p stay two: a struct of both would hold a slice that clock_at writes.
 fn tap(l: &[u64], p: usize, i: usize) -> u64
     requires { (i ≤ p) × (p < length l.now) }
     ensures { result ≡ tapped l.now p i }
@@ -34,6 +34,7 @@ fn tap(l: &[u64], p: usize, i: usize) -> u64
     l[p - i]
 }
 
+// fa and fb are two formulas, of five taps and IR and of six.
 fn fa_rest<W: Width>(l: &[u64], p: usize, u: RoundInput) -> u64
     requires { (W.Width.row.x1 ≤ p) × (p < length l.now) }
     ensures { result ≡ fa_rest xor and W.Width.row (tapped l.now p) u.ir u.ka }
@@ -68,7 +69,7 @@ fn clock_at<W: Width>(a: &mut [u64], b: &mut [u64], at: ClockNumber, u: RoundInp
     b[q + 1] = fa;
 }
 
-// The way back: what had left the registers at a clock stands at its number again.
+// The way back: what had left the registers at a clock stands at its number again, by a formula of its own.
 fn unclock_at<W: Width>(a: &mut [u64], b: &mut [u64], at: ClockNumber, u: RoundInput)
     requires { (at.0 + W.Width.row.len1 < length a.old) × (at.0 + W.Width.row.len2 < length b.old) }
     ensures a_after { a.new ≡ set a.old at.0 (xor (get_or b.old (at.0 + W.Width.row.len2) 0) (fa_rest xor and W.Width.row (tapped a.old (at.0 + W.Width.row.x1)) u.ir u.ka)) }
@@ -162,7 +163,7 @@ impl Way for Forth {
     ghost none = { λ v irs keys a b m. forward_none v irs keys a b 0 m };
 }
 
-// The rounds undone, the last first, and its last clock first.
+// The rounds undone, the last first, and its last clock first. Its loop goes down over unclock_at: that is all the way there is.
 pub struct Back;
 
 impl Way for Back {
@@ -197,7 +198,8 @@ impl Way for Back {
     ghost none = { λ v irs keys a b m. backward_none v irs keys a b rounds m };
 }
 
-// All rounds, in turns of TURN. The buffers stay two parameters, so that they are known to be apart.
+// All rounds, in turns of TURN. The buffers stay two parameters, so that LLVM knows them to be apart; irs and keys stay two, since one is
+// ours and the other lent by the caller.
 pub fn run<D: Way, W: Width, const TURN: u8>(
     a: &mut [u64],
     b: &mut [u64],
