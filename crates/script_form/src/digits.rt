@@ -9,7 +9,7 @@ pub struct Run {
     pub count: usize,
 }
 
-// The digit that a byte is in a base.
+// The digit that a byte is in a base. By hand: to_digit of a char takes capital letters too.
 #[tactic(auto, unfolding(crate::specs::scanner::Scan::value_of))]
 fn digit_in(b: u8, base: u64) -> Option<u64>
     requires { base ≤ 16 }
