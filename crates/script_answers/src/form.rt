@@ -11,7 +11,7 @@ pub struct Digits {
     pub count: usize,
 }
 
-// The digit of value `d`.
+// The digit of value `d`. By hand: std has from_digit for a char alone. What is cast fits, as proved.
 #[tactic(auto, unfolding(script_form::specs::Digits::digit))]
 fn digit_of(d: u64) -> u8
     requires { d < 16 }
@@ -37,7 +37,7 @@ fn put_digits(out: &mut [u8], base: u64, value: u64)
     }
 }
 
-// The place of a decimal's leading digit.
+// The place of a decimal's leading digit: at most 19, so that as loses nothing.
 fn places(value: u64) -> usize
     ensures { (result ≡ place 19 value) × (result ≤ 19) }
 {
@@ -94,12 +94,13 @@ pub fn write_form(form: &[u8], values: &[u64], digits: usize, out: &mut [u8]) ->
         × (out.new ≡ fill digits form.now values.now ++ drop (length (fill digits form.now values.now)) out.old) }
 {
     let mut at: usize = 0;
+    // Not every byte of a form takes a value, so no zip goes over both.
     let mut n: usize = 0;
     for p in form {
         let v = values.get(n).copied().unwrap_or(0);
         let put = put_piece(out, at, *p, v, digits);
         at = put.at;
-        n = n + put.taken;
+        n += put.taken;
     }
     at
 }
