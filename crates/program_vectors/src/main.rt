@@ -86,7 +86,8 @@ fn cut(line: &[u8]) -> Result<(&[u8], &[u8]), Fault> {
     Ok((&line[..at], &line[at + 1..]))
 }
 
-// The value of a digit of base 10 or 16. A capital letter is none, nor is a space: so the last field of a line is the last.
+// The value of a digit of base 10 or 16, by hand: a capital letter, which to_digit of a char would take, is none. Nor is a space: so the last field of a line
+// is the last.
 fn digit(b: u8, base: u8) -> Result<u8, Fault>
     ensures { IfOk result (λ d. d < base) }
 {
