@@ -46,6 +46,7 @@ fn ktantan_words(key: [u64; KEY_BITS]) -> [u64; ROUND_KEYS]
 {
     let numbers = katan_variants::key_bit_numbers();
     let mut words = [0u64; ROUND_KEYS];
+    // By index: of what iter_mut().zip lends nothing is known after the loop.
     for (i, number) in numbers.iter().enumerate() {
         words[i] = key[usize::from(*number)];
     }
