@@ -24,6 +24,7 @@ fn repeated(key: &[u8]) -> [u8; BATCH_KEYS]
     ensures { Entries (λ j. get_or key.now (j % key_bytes) 0) (key_bytes * lane_count) result }
 {
     let mut keys = [0u8; BATCH_KEYS];
+    // By index: of what is written through chunks_exact_mut only the lengths are known.
     for i in 0..LANES {
         let at = KEY_BYTES * i;
         let end = at + KEY_BYTES;
@@ -38,6 +39,7 @@ fn put_numbers(start: u64, first: usize, out: &mut [u64])
     ensures { Entries (λ i. start + (first + i)) (length out.old) out.new }
 {
     for (i, number) in out.iter_mut().enumerate() {
+        // as: no From leads from usize.
         *number = start + (first + i) as u64;
     }
 }
@@ -77,6 +79,7 @@ fn put_batch(
 }
 
 // Combines the message from `at` to `end` with the stream. The index is the message's and the output's, and that of the stream from `at` on.
+// By index: of what iter_mut().zip lends nothing is known after the loop.
 fn combine(stream: &[u8], at: usize, end: usize, message: &[u8], out: &mut [u8])
     requires { (at ≤ end) × (end ≤ length message.now) × (end ≤ length out.old) × (end ≤ at + length stream.now) }
     ensures { Written at end (λ j. xor (get_or message.now j 0) (get_or stream.now (j - at) 0)) out.old out.new }
@@ -86,7 +89,8 @@ fn combine(stream: &[u8], at: usize, end: usize, message: &[u8], out: &mut [u8])
     }
 }
 
-// All of the message, block after block. A batch has 64 blocks, and the last the rest.
+// All of the message, block after block. A batch has 64 blocks, and the last the rest. message and out are the public call's, and go
+// through as they came.
 pub fn combine_all(
     variant: u8,
     size: usize,

@@ -27,6 +27,7 @@ fn past_the_end(n: usize, start: u64, blocks: usize) -> bool
     requires { n ≤ word_bits }
     ensures { result ≡ ltb (2 ^ n) (start + blocks) }
 {
+    // as: no From leads from usize.
     (1u128 << n) < u128::from(start) + blocks as u128
 }
 
