@@ -34,7 +34,7 @@ pub enum Reply {
     Again { number: u32, total: u32 },
 }
 
-// What an arrival leaves, and answers: a reply, or the first fault found.
+// What an arrival leaves, and answers: a reply, or the first fault found. Bench and link stand beside the reply, since a refused arrival gives them back too.
 #[derive(Clone, Copy)]
 pub struct ArrivalResult {
     pub bench: Bench,

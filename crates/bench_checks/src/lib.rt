@@ -59,7 +59,7 @@ pub enum Turn {
     Repeats,
 }
 
-// A record's fields, and what the checks decide of it: its turn, or the first fault found.
+// A record's fields, also of one that is refused, and what the checks decide of it: its turn, or the first fault found.
 #[derive(Clone, Copy)]
 pub struct CheckedRecord {
     pub fields: Record,

@@ -70,7 +70,7 @@ fn clear_fault(fields: Record) -> Result<(), Refusal>
     check(fields.mask == 0, Refusal::EmptyMask)
 }
 
-// Checks 3 to 8 of a record on a bench of a variant: the kind chooses those of its fields.
+// Checks 3 to 8 of a record on a bench of a variant: the kind chooses those of its fields. A match, since each kind's checks take other arguments.
 pub fn field_fault(variant: u8, fields: Record) -> Result<(), Refusal>
     ensures { outcome result ≡ checked (field_checks variant fields) (value tt) }
 {

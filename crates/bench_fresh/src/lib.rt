@@ -29,7 +29,7 @@ pub fn fresh_bench(variant: u8) -> Bench
     }
 }
 
-// A fresh bench with its link, and what opening them answers.
+// A fresh bench with its link, and what opening them answers. They stand beside the answer, and not in it: a refused opening gives them too.
 #[derive(Clone, Copy)]
 pub struct Opening {
     pub bench: Bench,

@@ -1,4 +1,4 @@
-// A record: its fields, read from its bytes and written to them, and whether two records have the same bytes.
+// A record: its fields, read from its bytes and written to them, and the kinds of records.
 #![tactic(auto)]
 
 ghost use Rattle.std.specs.Prelude.{◌≡◌, ◌++◌, ◌+◌, ◌-◌, ◌≤◌, take, drop};
@@ -75,6 +75,7 @@ pub const LENGTH: usize = 40;
 // The fields of a record.
 #[derive(Clone, Copy)]
 pub struct Record {
+    // Any byte, as it was sent: check 3 finds those that are no Kind.
     pub kind: u8,
     pub lane: u8,
     // The load position or the move count.

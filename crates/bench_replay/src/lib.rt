@@ -26,7 +26,8 @@ pub const HEAD_LENGTH: usize = 5;
 // or the registers, 0 for a refusal. Numbers are low byte first.
 pub const ANSWER_LENGTH: usize = 13;
 
-// The bench as the list left it, and the answer: nothing more where every call is run, or the first fault found.
+// The bench as the list left it, and the answer: nothing more where every call is run, or the first fault found. The bench stands beside it, since a refused list
+// gives a fresh one.
 #[derive(Clone, Copy)]
 pub struct Replayed {
     pub bench: Bench,

@@ -12,7 +12,8 @@ ghost use Rattle.bench_screen.specs.Screen.{number_shown, bit_shown, numbers_sho
 use bench::{Bench, Loaded};
 use katan::{LANES, Refusal};
 
-// What a look at a lane in which check 1 finds no fault finds: the number that it shows, and its bit of the mask shown.
+// What a look at a lane in which check 1 finds no fault finds: the number that it shows, and its bit of the mask shown. The bit and no Option:
+// numbers and mask are filled the same way whether a lane shows or not.
 #[derive(Clone, Copy)]
 struct LaneSeen {
     number: u64,

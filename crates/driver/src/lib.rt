@@ -1,5 +1,6 @@
 // The calls of a driver in C or Rust, for each a function of one of the `driver_` crates with the same promise. Each but `katan_version` and
 // `katan_cycles` returns 0 or the number of the first fault found, and a refused call leaves every lent output as it was, but for a preview's room.
+// Names, and parameters one by one, are those of katan_bench.h.
 #![tactic(auto)]
 
 ghost use Rattle.std.specs.Prelude.{◌≡◌};

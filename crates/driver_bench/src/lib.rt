@@ -1,5 +1,6 @@
 // The calls of a driver that open a bench, and that send it a record or try one: numbers, and lent slices. Each returns 0 or document 01's number of
 // the first fault found, and a refused call leaves every lent output as it was, but for a preview's room.
+// The status is a number and no Result, and parameters come one by one: `driver` hands them on to C as they are.
 #![tactic(auto)]
 
 ghost use Rattle.std.specs.Prelude.{◌≡◌};
@@ -8,7 +9,7 @@ ghost use Rattle.katan.specs.Lent.{status_of};
 ghost use Rattle.driver_bench.specs.Calls.{reply_words, open_call, opened_bench, opened_link, arrive_call, arrived_bench, arrived_link, arrived_answer, preview_call, previewed_answer, previewed_room};
 
 use bench::Reply;
-use driver_layout::{BENCH_LENGTH, LINK_LENGTH, bench_in, link_in, put_bench, put_copy, put_link};
+use driver_layout::{BENCH_LENGTH, LINK_LENGTH, bench_in, link_in, put_bench, put_link};
 use driver_reads::bench_or_length;
 use katan::Refusal;
 use katan_variants::status;
@@ -16,7 +17,7 @@ use katan_variants::status;
 // The words lent for the answer to an arrival or a preview.
 const ARRIVAL_WORDS: usize = 3;
 
-// The first word of the answer to an arrival or a preview: C reads it as a number.
+// The first word of the answer to an arrival or a preview: numbers, since C reads them (KATAN_DONE, KATAN_AGAIN of katan_bench.h).
 const DONE: u32 = 0;
 
 const AGAIN: u32 = 1;
@@ -99,7 +100,7 @@ fn put_preview(
     if bench.len() != BENCH_LENGTH {
         return Err(Refusal::BadLength);
     }
-    put_copy(bench, room);
+    katan_numbers::put_copy(bench, room);
     let found = bench_in(bench);
     if link.len() != LINK_LENGTH || answer.len() != ARRIVAL_WORDS || room.len() != BENCH_LENGTH {
         return Err(bench_or_length(found));

@@ -1,5 +1,6 @@
 // The calls of a driver on one block, on many blocks, on a message, on a clock's bits and on the rate: numbers, and lent slices.
 // Each returns 0 or the number of the first fault found, and a refused call leaves every lent output as it was.
+// The status is a number and no Result, and parameters come one by one: `driver` hands them on to C as they are.
 #![tactic(auto)]
 
 ghost use Rattle.std.specs.Prelude.{◌≡◌, IfOk, length};
@@ -61,7 +62,7 @@ fn three_words(bits: ClockBits) -> [u64; 3]
     [bits.fa, bits.fb, bits.looked_up]
 }
 
-// Encrypts a block into the one word of `out`.
+// Encrypts a block into the one word of `out`. There is a function for each of C's calls: what both ways share is put_words, and lanes::many over Direction.
 pub fn encrypt(variant: u8, key: &[u8], block: u64, out: &mut [u64]) -> u8
     ensures value { result ≡ status_of (encrypt_call variant key.now block out.old) }
     ensures out_after { out.new ≡ lent_after word (encrypt_call variant key.now block out.old) out.old }
@@ -108,6 +109,7 @@ pub fn origin(variant: u8, key: &[u8], block: u64, clock: u64, out: &mut [u64]) 
     ensures value { result ≡ status_of (origin_call variant key.now block clock out.old) }
     ensures out_after { out.new ≡ lent_after clock_words (origin_call variant key.now block clock out.old) out.old }
 {
+    // A word of this machine loses nothing as usize; std has no From for it.
     let found = katan_origin::origin(variant, key, block, ClockNumber(clock as usize));
     status(put_words(variant, found.map(three_words), out))
 }

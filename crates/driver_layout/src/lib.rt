@@ -47,7 +47,7 @@ const EMPTY: u8 = 0;
 
 const LOADED: u8 = 1;
 
-// The position of a lane whose state is another: over 254, so that check 1 finds a fault.
+// The position that bench_in promises of a lane whose state is another (damaged_position in specs/Layout): over 254, so that check 1 finds a fault.
 const DAMAGED: u8 = 255;
 
 fn position_in(bytes: &[u8]) -> u8
@@ -86,6 +86,7 @@ fn whole_bench(bytes: &[u8]) -> Bench
 {
     let variant = bytes[VARIANT_AT];
     let mut slots = [None; LANES];
+    // No zip with chunks of the bytes: a proof knows nothing of the slots after it.
     for (i, slot) in slots.iter_mut().enumerate() {
         let at = LANES_AT + LANE_LENGTH * i;
         *slot = lane_in(&bytes[at..at + LANE_LENGTH]);
@@ -108,6 +109,7 @@ pub fn bench_in(bytes: &[u8]) -> Bench
 pub fn link_in(bytes: &[u8]) -> Link
     ensures { result ≡ link_in bytes.now }
 {
+    // Four bytes each: they fit, as proved.
     let last = katan_numbers::word_of(bytes_in(bytes, LAST_AT, NUMBER_BYTES)) as u32;
     let total = katan_numbers::word_of(bytes_in(bytes, TOTAL_AT, NUMBER_BYTES)) as u32;
     Link {
@@ -145,6 +147,7 @@ fn write_bench(bench: Bench, out: &mut [u8])
     ensures { out.new ≡ bench_bytes bench out.old }
 {
     out[VARIANT_AT] = bench.variant;
+    // No zip with chunks of the output: of what is written through them only the lengths are known.
     for (i, lane) in bench.slots.iter().enumerate() {
         let at = LANES_AT + LANE_LENGTH * i;
         put_lane(*lane, &mut out[at..at + LANE_LENGTH]);
@@ -156,15 +159,6 @@ pub fn put_bench(bench: Bench, out: &mut [u8])
 {
     if out.len() == BENCH_LENGTH {
         write_bench(bench, out);
-    }
-}
-
-// A copy of any bytes, into memory of as many.
-pub fn put_copy(bytes: &[u8], out: &mut [u8])
-    ensures { out.new ≡ fitted (length bytes.now) bytes.now out.old }
-{
-    if out.len() == bytes.len() {
-        out.copy_from_slice(bytes);
     }
 }
 

@@ -1,5 +1,6 @@
 // The calls of a driver that only read a bench: numbers, and lent slices. Each returns 0 or document 01's number of the first fault found, and a refused
 // call leaves every lent output as it was.
+// The status is a number and no Result, and parameters come one by one: `driver` hands them on to C as they are.
 #![tactic(auto)]
 
 ghost use Rattle.std.specs.Prelude.{◌≡◌};
@@ -35,6 +36,7 @@ fn put_reading(bench: &[u8], lane: u64, answer: &mut [u64]) -> Result<(), Refusa
     if answer.len() != READING_WORDS {
         return Err(Refusal::BadLength);
     }
+    // A word of this machine loses nothing as usize; std has no From for it.
     let reading = bench_stepping::read(found, lane as usize)?;
     answer[0] = u64::from(reading.position.0);
     answer[1] = reading.registers;

@@ -1,5 +1,6 @@
 // The call of a driver that runs a whole list of calls. It returns 0 or document 01's number of the first fault found, and where it is refused leaves
 // every lent output as it was.
+// The status is a number and no Result, and parameters come one by one: `driver` hands them on to C as they are.
 #![tactic(auto)]
 
 ghost use Rattle.std.specs.Prelude.{◌≡◌};

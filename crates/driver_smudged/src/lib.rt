@@ -1,5 +1,6 @@
 // The calls of a driver on sheets with smudged bits: numbers, and lent slices. Each returns 0 or the number of the first fault found, and a refused call
 // leaves every lent output as it was.
+// The status is a number and no Result, and parameters come one by one: `driver` hands them on to C as they are.
 #![tactic(auto)]
 
 ghost use Rattle.std.specs.Prelude.{◌≡◌, ◌≤◌, length};

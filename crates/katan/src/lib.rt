@@ -48,6 +48,7 @@ pub struct Row {
     pub y4: usize,
     pub y5: usize,
     pub y6: usize,
+    // As 32 bits, so that a position times these clocks fits for any row. Where they are places they go by `as`: std has no From from u32 to usize.
     pub clocks: u32,
 }
 
@@ -66,7 +67,8 @@ pub struct RoundInput {
     pub kb: u64,
 }
 
-// How many rounds a block has behind it, 0 to 254.
+// How many rounds a block has behind it, 0 to 254. It may hold any byte: calls take it as it comes and refuse one over 254 in its turn. Inside, a few functions
+// ask that it is not over 254, and only hand it on: a type of its own would be no plainer.
 #[derive(Clone, Copy)]
 pub struct RoundPosition(pub u8);
 
@@ -102,7 +104,8 @@ pub enum Refusal {
     Contradiction,
 }
 
-// The number of a refusal: document 01's, and from 14 on document 02's.
+// The number of a refusal: document 01's, and from 14 on document 02's. By arms, since two refusals of one number could not be written as discriminants, and the
+// promise is to refuse them.
 impl From<Refusal> for u8 {
     ghost from_gives = { λ r n. n ≡ number_of r };
 

@@ -30,7 +30,7 @@ fn block_at(
     katan_registers::registers_at(variant, katan_numbers::key_of(key), from, to, x)
 }
 
-// Encryption: a load at 0 read at 254.
+// Encryption: a load at 0 read at 254. Both ways are one call of block_at, and callers hand each on as a function.
 pub fn encrypt(variant: u8, key: &[u8], block: u64) -> Result<u64, Refusal>
     ensures { outcome result ≡ encrypt_answer variant key.now block }
 {

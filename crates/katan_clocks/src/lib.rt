@@ -24,6 +24,7 @@ struct Clocks {
     ghost few: { count ≤ row.x5 + 1 },
 }
 
+// What stays the same from clock to clock is in self; input and registers are structs already.
 impl Clocks {
     // The clocks of a stride: those of four rounds of 32-bit blocks, of three of the others.
     fn of_stride<W: Width>() -> Clocks
@@ -58,6 +59,8 @@ impl Clocks {
         l >> (i + 1 - self.count)
     }
 
+    // fa and fb are two formulas, of five taps and IR and of six taps. They stand once in specs/, over any kind of bits, and in code for each kind: one function over a
+    // type of bits would take its two operations, of which those that count must not run over and a product of unknown bits is of another type.
     fn fa(self, l: u64, w: RoundInput) -> u64
         ensures { result ≡ fa_of xor and self.row (tap_of self.count l) w.ir w.ka }
     {
@@ -134,7 +137,7 @@ impl Clocks {
         self.count + self.row.x3 <= self.row.x1 && self.count + self.row.y3 <= self.row.y1
     }
 
-    // The clocks undone.
+    // The clocks undone, a formula of its own: the rest of fa is taken from what had left.
     fn go_back(self, w: RoundInput, s: Registers) -> Registers
         requires { (self.count + self.row.x3 ≤ self.row.x1) × (self.count + self.row.y3 ≤ self.row.y1) }
         ensures { result ≡ unclocks_by self.row self.count w s }
@@ -178,7 +181,7 @@ pub fn stride<W: Width>(w: RoundInput, s: Registers) -> Registers
     Clocks::of_stride::<W>().go(w, s)
 }
 
-// The same undone, at once or round by round.
+// The same undone, at once or round by round: not the other's formula with other numbers.
 pub fn unstride<W: Width>(w: RoundInput, s: Registers) -> Registers
     ensures { result ≡ unclocks_by W.Width.row (stride_clocks W.Width.row) w s }
 {

@@ -69,7 +69,7 @@ impl Window {
         )
     }
 
-    // The window a step back: it moves up, and the bits that had left follow by the rule read backwards.
+    // The window a step back: it moves up, and the bits that had left follow by the rule read backwards, a formula of its own.
     fn behind(self, step: Step) -> Window
         ensures { window_number result ≡ behind step.rounds (window_number self) }
     {
@@ -125,7 +125,8 @@ pub fn source_at(variant: u8, key: Key, at: RoundPosition) -> Window
     first
 }
 
-// The same a step later, and a step earlier.
+// The same a step later, and a step earlier. One function for both would take the step from its caller as a closure, and each caller would choose between ahead and
+// behind.
 pub fn next_source(variant: u8, step: Step, w: Window) -> Window
     ensures { window_number result ≡ next_source variant step.rounds (window_number w) }
 {
@@ -164,6 +165,7 @@ pub fn key_bits(key: Key) -> [u8; katan::KEY_BITS]
     let words = key_words(key);
     let mut bits = [0u8; katan::KEY_BITS];
     for (i, bit) in bits.iter_mut().enumerate() {
+        // A bit fits a byte, as proved.
         *bit = bit_at(words, i) as u8;
     }
     bits

@@ -1,8 +1,8 @@
 // Numbers and keys in bytes, low byte first; words copied; bits of words; whether a number fits n bits; a block and its two registers.
 #![tactic(auto)]
 
-ghost use Rattle.std.specs.Prelude.{◌≡◌, ◌%◌, ◌^◌, ◌<◌, length, take, nat_le, slice_index};
-ghost use Rattle.katan.specs.Bit.{bit, number_in, bytes_of};
+ghost use Rattle.std.specs.Prelude.{◌≡◌, ◌%◌, ◌^◌, ◌<◌, eqb, length, take, nat_le, slice_index};
+ghost use Rattle.katan.specs.Bit.{bit, pick, number_in, bytes_of};
 ghost use Rattle.katan.specs.Clock.{block, registers};
 ghost use Rattle.katan.specs.Key.{key_number, key_of};
 ghost use Rattle.katan.specs.Lent.{fitted};
@@ -24,7 +24,7 @@ fn wide_at(bytes: &[u8], i: usize) -> u64
     u64::from(byte_at(bytes, i))
 }
 
-// The number in the first 8 bytes.
+// The number in the first 8 bytes. By hand: missing bytes are zeros, where from_le_bytes asks for all 8.
 pub fn word_of(bytes: &[u8]) -> u64
     ensures { result ≡ number_in (take 8 bytes.now) }
 {
@@ -46,7 +46,8 @@ pub fn key_of(bytes: &[u8]) -> Key
     }
 }
 
-// A number in as many bytes as are lent for it, low byte first: what is too large for them is cut off.
+// A number in as many bytes as are lent for it, low byte first: what is too large for them is cut off. By hand: to_le_bytes
+// gives 8, whatever is lent.
 pub fn put_number(x: u64, out: &mut [u8])
     ensures { out.new ≡ bytes_of (length out.old) x }
 {
@@ -77,12 +78,12 @@ pub fn put_key(key: Key, out: &mut [u8])
     }
 }
 
-// A copy of any words, into memory of as many.
-pub fn put_words(words: &[u64], out: &mut [u64])
-    ensures { out.new ≡ fitted (length words.now) words.now out.old }
+// A copy of any items, into memory of as many: other memory is left as it was.
+pub fn put_copy<T: Copy>(items: &[T], out: &mut [T])
+    ensures { out.new ≡ pick (eqb (length out.old) (length items.now)) items.now out.old }
 {
-    if out.len() == words.len() {
-        out.copy_from_slice(words);
+    if out.len() == items.len() {
+        out.copy_from_slice(items);
     }
 }
 

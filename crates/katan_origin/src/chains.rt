@@ -83,7 +83,7 @@ fn given(bit: u64) -> Traced
     Traced { bit, count: 0 }
 }
 
-// fa of the bits at its five places.
+// fa of the bits at its five places. fa and fb are two formulas, and the bits of each register lead to the other's.
 fn fa_of(x1: Traced, x2: Traced, x3: Traced, x4: Traced, x5: Traced, u: RoundInput) -> Traced
     requires { x1.count + (x2.count + x3.count + x4.count + x5.count) < 2 ^ 64 }
     ensures { (v : Row) (l : ℕ → Traced) → (x1 ≡ l v.x1) × (x2 ≡ l v.x2) × (x3 ≡ l v.x3) × (x4 ≡ l v.x4) × (x5 ≡ l v.x5)
@@ -115,6 +115,7 @@ impl Clock {
         ensures { result ≡ clock_input self.run.variant (key_number self.run.key) self.number.0 }
     {
         let clocks = self.run.row.clocks as usize;
+        // It fits, as proved.
         let round = RoundPosition((self.number.0 / clocks) as u8);
         katan_registers::round_input(self.run.variant, self.run.key, round)
     }

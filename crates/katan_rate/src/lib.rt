@@ -26,5 +26,6 @@ pub fn bit_rate(variant: u8, hertz: u64) -> Result<u64, Refusal>
     if hertz == 0 || HIGHEST_RATE < hertz {
         return Err(Refusal::BadRate);
     }
+    // std has no From from usize.
     Ok(row.n as u64 * hertz / BLOCK_CYCLES)
 }

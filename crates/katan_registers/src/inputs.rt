@@ -22,7 +22,8 @@ fn input_from(counter: u8, source: Window, ka: usize, kb: usize) -> RoundInput
     }
 }
 
-// The input of round r. KATAN's key bits are the two lowest of the window; KTANTAN's table names them.
+// The input of round r. KATAN's key bits are the two lowest of the window; KTANTAN's table names them. r is the index
+// into both tables.
 pub fn input_of(variant: u8, tables: &Tables, r: usize, source: Window) -> RoundInput
     requires { r < rounds }
     ensures { result ≡ table_input variant tables.now.counters tables.now.numbers r (window_number source) }

@@ -19,7 +19,7 @@ use std::marker::PhantomData;
 mod inputs;
 mod rounds;
 
-// The registers at one position of x loaded at another, at the variant's width.
+// The registers at one position of x loaded at another, at the variant's width. What is handed on are the arguments of the public call.
 fn between<W: Width>(variant: u8, key: Key, from: RoundPosition, to: RoundPosition, x: u64) -> u64
     requires { (W.Width.row ≡ row_of variant) × (from.0 ≤ rounds) × (to.0 ≤ rounds) × (x < 2 ^ width_of variant) }
     ensures { result ≡ registers_at variant (key_number key) from.0 x to.0 }

@@ -65,7 +65,8 @@ fn back<F: Fn(usize, Running) -> Running>(
 // strides take the key's bits too, lent beside it: a move of one round would be slower by the time that it takes to write them out.
 //
 // Each way has functions of its own: they differ in the formulas, in the order, the last round first, and in where the source steps,
-// behind a round or before it, so that one function for both would hold every line twice.
+// behind a round or before it, so that one function for both would hold every line twice. `strides` and `unstrides` alone read alike: a trait of the two ways, with
+// its laws of Moves and MovesBack, would have more lines than one function saves. Round number and Running change from call to call, and so stay parameters.
 #[derive(Drop)]
 pub struct Machine<'t, W: Width> {
     pub variant: u8,

@@ -44,7 +44,7 @@ impl<T> Known<T> {
     }
 }
 
-// What either knows.
+// What either knows. Two impls, and none over any type: of words the law is on the words themselves, of keys on their numbers.
 impl BitOr<KnownBits> for KnownBits {
     type Output = KnownBits;
 

@@ -42,7 +42,8 @@ fn input_from(counter: u8, w: KnownSource, ka: usize, kb: usize) -> KnownInput
     }
 }
 
-// The input of round r. KATAN's key bits are the two lowest of the window; KTANTAN's table names them.
+// The input of round r. KATAN's key bits are the two lowest of the window; KTANTAN's table names them. As in katan_registers, of bits that may be unknown: one
+// function over both would take the source's type, with its own way to a bit and a law for it.
 fn input_of(variant: u8, tables: &Tables, r: usize, w: KnownSource) -> KnownInput
     requires { r < rounds }
     ensures { result ≡ input_words variant tables.now.counters tables.now.numbers r w }

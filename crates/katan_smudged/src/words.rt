@@ -86,7 +86,7 @@ fn at(l: KnownBits, i: usize) -> KnownBits
     l.map(|x| x >> i)
 }
 
-// fa and fb at a width. Its row is a constant there, so its taps are compiled in.
+// fa and fb, two formulas, at a width. Its row is a constant there, so its taps are compiled in.
 fn fa_of<W: Width>(l: KnownBits, ir: KnownBits, ka: KnownBits) -> KnownBits
     ensures { result ≡ fa_words W.Width.row l ir ka }
 {

@@ -1,4 +1,4 @@
-// The variants' rows and tables, check 1 of a variant number, and the numbers of the refusals.
+// The three widths with their rows, the tables, check 1 of a variant number, and the status of a call.
 #![tactic(auto)]
 
 ghost use Rattle.std.specs.Prelude.{◌≡◌, ◌*◌, ◌⊎◌};
@@ -125,7 +125,8 @@ impl Width for Bits64 {
     }
 }
 
-// Check 1 of a variant number.
+// Check 1 of a variant number. A variant is a number and no enum in every call: calls take any byte, and their promises say what 0 and 7 to 255 get, in check 1's
+// turn.
 pub fn bad_variant(variant: u8) -> bool
     ensures { result ≡ (variant_check variant).fault }
 {

@@ -73,6 +73,7 @@ fn print_digest(rt: &HostRuntime, out: &[u64]) -> io::Result<()> {
     println!(rt; " {all:016x}")
 }
 
+// Direction is of lanes, which prints nothing.
 fn letter(direction: Direction) -> &'static str {
     match direction {
         Direction::Encrypt => "e",

@@ -246,7 +246,7 @@ fn input_buffer() -> [u8; 1048576]
     [0; 1048576]
 }
 
-// Reads until the input ends or the buffer is full, and says how many bytes were read. The buffer is fixed, since nothing here allocates, and no method of
+// Reads until the input ends or the buffer is full, and says how many bytes were read. The buffer is fixed, since no heap is a rule here, and no method of
 // `Read` fills one that the input may end within.
 fn read_full(rt: &HostRuntime, buffer: &mut [u8]) -> io::Result<usize>
     ensures { IfOk result (λ n. n ≤ length buffer.new) }
