@@ -13,7 +13,7 @@ use katan::Refusal;
 
 mod counted;
 
-// An arrival, with the link by value.
+// An arrival, with the link by value. Bench, link and record come one by one, as in the calls of README.
 fn arrive_core(bench: Bench, link: Link, sent: &[u8]) -> ArrivalResult
     ensures { effect_of result ≡ arrive_of bench link sent.now }
 {

@@ -10,7 +10,7 @@ ghost use Rattle.katan_cipher.specs.Answers.{block_answer, encrypt_answer, decry
 
 use katan::{Refusal, RoundPosition};
 
-// A block from one position to another, with the key in bytes.
+// A block from one position to another, with the key in bytes. Variant and key come one by one, as the calls have them.
 fn block_at(
     variant: u8,
     key: &[u8],

@@ -96,6 +96,7 @@ fn batch(rt: &HostRuntime, k: usize) -> io::Result<()>
     let n = k % 64 + 1;
     let variant = (k / 64 % 6 + 1) as u8;
     let direction = direction_of(k);
+    // std has no From from usize.
     let seed = k as u64;
     let keys = key_bytes(seed + 1);
     let blocks = block_values(seed + 1001, unused_bits(variant));

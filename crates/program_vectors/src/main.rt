@@ -211,6 +211,7 @@ fn arrival_line(session: &mut Option<Session>, rest: &[u8]) -> Result<Answer, Fa
 fn read_line(session: &mut Option<Session>, rest: &[u8]) -> Result<Answer, Fault> {
     let lane = number_in(rest, 10)?;
     let open = session.ok_or(Fault::BadLine)?;
+    // A word of this machine loses nothing as usize; std has no From for it.
     Ok(Answer::Read(bench_stepping::read(open.bench, lane as usize)?))
 }
 
