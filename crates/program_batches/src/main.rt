@@ -20,6 +20,7 @@ fn key_bytes(seed: u64) -> [u8; 640] {
     let mut x = seed;
     for byte in bytes.iter_mut() {
         x = next(x);
+        // A remainder fits a byte.
         *byte = ((x >> 33) % 256) as u8;
     }
     bytes
@@ -94,6 +95,7 @@ fn batch(rt: &HostRuntime, k: usize) -> io::Result<()>
     requires { k < 768 }
 {
     let n = k % 64 + 1;
+    // A remainder fits a byte.
     let variant = (k / 64 % 6 + 1) as u8;
     let direction = direction_of(k);
     // std has no From from usize.

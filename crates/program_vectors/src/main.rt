@@ -86,6 +86,7 @@ fn cut(line: &[u8]) -> Result<(&[u8], &[u8]), Fault> {
     Ok((&line[..at], &line[at + 1..]))
 }
 
+// Beside script_form's digit_in: a program of the gate shares no code with the script.
 // The value of a digit of base 10 or 16, by hand: a capital letter, which to_digit of a char would take, is none. Nor is a space: so the last field of a line
 // is the last.
 fn digit(b: u8, base: u8) -> Result<u8, Fault>
