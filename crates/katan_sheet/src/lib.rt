@@ -31,19 +31,6 @@ pub struct Sheet<K> {
     pub key: Known<K>,
 }
 
-impl<T> Known<T> {
-    // The same of each part.
-    pub fn map<U, F: Fn(T) -> U>(self, f: F) -> Known<U>
-        requires { F.pre f self.ones × F.pre f self.zeros }
-        ensures { F.post f self.ones result.ones × F.post f self.zeros result.zeros }
-    {
-        Known {
-            ones: f(self.ones),
-            zeros: f(self.zeros),
-        }
-    }
-}
-
 // What either knows. Two impls, and none over any type: of words the law is on the words themselves, of keys on their numbers.
 impl BitOr<KnownBits> for KnownBits {
     type Output = KnownBits;
@@ -111,7 +98,10 @@ pub fn contradictory(block: KnownBits, key: KnownKey) -> bool
 pub fn key_of(key: Known<&[u8]>) -> KnownKey
     ensures { result ≡ key_in key.entry.ones.now key.entry.zeros.now }
 {
-    key.map(|bytes| katan_numbers::key_of(bytes))
+    Known {
+        ones: katan_numbers::key_of(key.ones),
+        zeros: katan_numbers::key_of(key.zeros),
+    }
 }
 
 // What either of two sheets of one block knows, of the block and of the key.

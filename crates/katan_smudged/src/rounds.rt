@@ -9,7 +9,7 @@ ghost use Rattle.katan_sheet.specs.Sheet.{smudged_at, contradicts};
 ghost use Rattle.katan_sheet.specs.Answers.{key_known};
 ghost use Rattle.katan_smudged.specs.inner.Words.{clocks_words, registers_words, block_words, Fit, source_bit, input_from, input_words, source_bits, Follows, Runs};
 
-use crate::words::{KnownInput, KnownRegisters, KnownSource, clocks, following};
+use crate::words::{KnownInput, KnownRegisters, KnownSource, clocks, each, following};
 use katan::{Registers, RoundPosition, Row};
 use katan_sheet::{Known, KnownBits, KnownKey};
 use katan_variants::{Bits32, Bits48, Bits64, Tables, Width};
@@ -24,7 +24,7 @@ struct Running {
 fn source_bit(w: KnownSource, i: usize) -> KnownBits
     ensures { result ≡ source_bit w i }
 {
-    w.map(|w| katan_keys::bit_at(w, i))
+    each(w, |w| katan_keys::bit_at(w, i))
 }
 
 // IR, which is known, from the round's T; and ka and kb, which have these places in the source.
@@ -62,7 +62,7 @@ fn next_source(variant: u8, w: KnownSource) -> KnownSource
     ensures { Follows variant w result }
 {
     if katan_variants::is_katan(variant) {
-        let e = following(w.map(|w| w.low), w.map(|w| w.high));
+        let e = following(each(w, |w| w.low), each(w, |w| w.high));
         return Known {
             ones: katan_keys::slide(w.ones, e.ones),
             zeros: katan_keys::slide(w.zeros, e.zeros),
@@ -112,10 +112,10 @@ fn run_of(variant: u8, start: Running, to: RoundPosition) -> KnownRegisters
 fn registers_of(row: Row, block: KnownBits) -> KnownRegisters
     ensures { result ≡ registers_words row block }
 {
-    let s = block.map(|x| katan_numbers::registers_of(row, x));
+    let s = each(block, |x| katan_numbers::registers_of(row, x));
     KnownRegisters {
-        l1: s.map(|s| s.l1),
-        l2: s.map(|s| s.l2),
+        l1: each(s, |s| s.l1),
+        l2: each(s, |s| s.l2),
     }
 }
 
@@ -140,7 +140,7 @@ fn block_of(row: Row, s: KnownRegisters) -> KnownBits
 fn source_of(key: KnownKey) -> KnownSource
     ensures { (source_bits result ≡ key_known key) × Fit key_length (source_bits result) }
 {
-    key.map(|k| katan_keys::key_words(k))
+    each(key, |k| katan_keys::key_words(k))
 }
 
 // What is known of the registers at a position, with the block in them at position 0.

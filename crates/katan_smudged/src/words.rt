@@ -9,6 +9,17 @@ use katan_sheet::{Known, KnownBits};
 use katan_variants::Width;
 use std::ops::BitXor;
 
+// The same of each part.
+pub fn each<T, U, F: Fn(T) -> U>(of: Known<T>, f: F) -> Known<U>
+    requires { F.pre f of.ones × F.pre f of.zeros }
+    ensures { F.post f of.ones result.ones × F.post f of.zeros result.zeros }
+{
+    Known {
+        ones: f(of.ones),
+        zeros: f(of.zeros),
+    }
+}
+
 // A sum of bits: it is known where each of its terms is, and its value counts only there.
 #[derive(Clone, Copy)]
 struct Sum {
@@ -83,7 +94,7 @@ fn at(l: KnownBits, i: usize) -> KnownBits
     requires { i < 64 }
     ensures { result ≡ from l i }
 {
-    l.map(|x| x >> i)
+    each(l, |x| x >> i)
 }
 
 // fa and fb, two formulas, at a width. Its row is a constant there, so its taps are compiled in.

@@ -12,6 +12,6 @@ returns-then-is_katan c =
     let w = c.args.w in
     let v = c.args.variant in
     let kind : is_katan v ≡ true = sym c.is_katan.ensures ∙ c.if-is_katan.true in
-    let low : c.map.result ≡ sheet w.ones.low w.zeros.low = search rules in
-    let high : c.map-then-is_katan.result ≡ sheet w.ones.high w.zeros.high = search rules in
+    let low : c.each.result ≡ sheet w.ones.low w.zeros.low = search rules in
+    let high : c.each-then-is_katan.result ≡ sheet w.ones.high w.zeros.high = search rules in
     source_follows w (search rules) (search rules) v _ (katan_next v w _ _ kind (c.following-e.ensures ∙ ap₂ following low high) c.slide.ensures c.slide-then-is_katan.ensures)
