@@ -17,7 +17,7 @@ use Rattle.katan.proofs.Shows.{pushed}
 use Rattle.katan_sheet.specs.Three.{Three, is0, is1, unknown, xor_three, and_three, known}
 use Rattle.katan_sheet.specs.Cells.{Cells, shifted, clock_cells, clocks_cells}
 use Rattle.katan_sheet.specs.Sheet.{one_of, zero_of}
-use Rattle.katan_smudged.specs.inner.Words.{term, plus, settled, times, from, fa_words, fb_words, enter, entered_words, clock_words, clocks_words, Fit, Reads, Holds, HoldsCells}
+use Rattle.katan_smudged.specs.inner.Words.{term, plus, settled, times, from, fa_words, fb_words, enter, entered_words, clock_words, clocks_words, Fit, RegistersFit, Reads, Holds, HoldsCells}
 use Rattle.katan_sheet.specs.declared.Known.{Known}
 use Rattle.katan_smudged.specs.declared.words.Sum.{Sum}
 use Rattle.katan_smudged.specs.declared.words.KnownRegisters.{KnownRegisters}
@@ -28,6 +28,14 @@ use Rattle.katan_smudged.specs.declared.words.KnownInput.{KnownInput}
 enter_fits : (w : ℕ) (l b : Known ℕ) → Fit w (enter w l b)
 unfolding enter
 enter_fits w l b = record { ones_fit = mod-lt _ (pow_pos w); zeros_fit = mod-lt _ (pow_pos w) }
+
+pub clock_fits : (v : Row) (u : KnownInput) (s : KnownRegisters) → RegistersFit v (clock_words v u s)
+unfolding entered_words
+clock_fits v u s = record { l1_fits = enter_fits v.len1 s.l1 _; l2_fits = enter_fits v.len2 s.l2 _ }
+
+pub clocks_fit : (v : Row) (u : KnownInput) (c : ℕ) (s : KnownRegisters) → RegistersFit v s → RegistersFit v (clocks_words v u c s)
+clocks_fit v u zero s f = f
+clocks_fit v u (suc c) s f = clock_fits v u (clocks_words v u c s)
 
 -- ---- single bits: the three values as two bits
 
