@@ -83,7 +83,10 @@ pub fn put_copy<T: Copy>(items: &[T], out: &mut [T])
     ensures { out.new ≡ pick (eqb (length out.old) (length items.now)) items.now out.old }
 {
     if out.len() == items.len() {
-        out.copy_from_slice(items);
+        // A loop, since of copy_from_slice between two slices that C lends LLVM makes memmove, which the archive does not take.
+        for (i, item) in out.iter_mut().enumerate() {
+            *item = items[i];
+        }
     }
 }
 

@@ -22,8 +22,10 @@ fn put_reversed(words: &[u64], out: &mut [u64])
     requires { length out.old ≡ length words.now }
     ensures { (i : ℕ) → i < length words.now → get_or out.new i 0 ≡ get_or words.now (length words.now - 1 - i) 0 }
 {
-    out.copy_from_slice(words);
-    out.reverse();
+    // In one pass by a loop: of copy_from_slice between two lent slices LLVM makes memmove, which the archive for C does not take.
+    for (i, word) in out.iter_mut().enumerate() {
+        *word = words[words.len() - 1 - i];
+    }
 }
 
 // Places the words of the blocks' bits as the registers at a position.
