@@ -33,25 +33,25 @@ module _ (line : List ℕ) (offset : ℕ) (f : Fields) where
   word_fits : (x : Values) (i n : ℕ) → f.values ≡ x → word_at x i ≤ n → word_at f.values i ≤ n
   word_fits x i n e h = subst (◌≤ n) (sym (ap (λ (y : Values). word_at y i) e)) h
 
-  pub bench_fits : Ok f ≡ whole (block_digits 0) line offset bench_form → word_at f.values 0 ≤ 255
+  pub bench_fits : (d : ℕ) → Ok f ≡ whole d line offset bench_form → word_at f.values 0 ≤ 255
   unfolding push
-  bench_fits e = let k = whole_sound (block_digits 0) line offset bench_form f (sym e) in word_fits _ 0 255 k.stored k.range.0
+  bench_fits d e = let k = whole_sound d line offset bench_form f (sym e) in word_fits _ 0 255 k.stored k.range.0
 
-  pub read_fits : Ok f ≡ whole (block_digits 0) line offset read_form → word_at f.values 0 ≤ 255
+  pub read_fits : (d : ℕ) → Ok f ≡ whole d line offset read_form → word_at f.values 0 ≤ 255
   unfolding push
-  read_fits e = let k = whole_sound (block_digits 0) line offset read_form f (sym e) in word_fits _ 0 255 k.stored k.range.0
+  read_fits d e = let k = whole_sound d line offset read_form f (sym e) in word_fits _ 0 255 k.stored k.range.0
 
-  forward_fits : Ok f ≡ whole (block_digits 0) line offset forward_form → word_at f.values 1 ≤ 255
+  forward_fits : (d : ℕ) → Ok f ≡ whole d line offset forward_form → word_at f.values 1 ≤ 255
   unfolding push
-  forward_fits e = let k = whole_sound (block_digits 0) line offset forward_form f (sym e) in word_fits _ 1 255 k.stored k.range.1.0
+  forward_fits d e = let k = whole_sound d line offset forward_form f (sym e) in word_fits _ 1 255 k.stored k.range.1.0
 
-  back_fits : Ok f ≡ whole (block_digits 0) line offset back_form → word_at f.values 1 ≤ 255
+  back_fits : (d : ℕ) → Ok f ≡ whole d line offset back_form → word_at f.values 1 ≤ 255
   unfolding push
-  back_fits e = let k = whole_sound (block_digits 0) line offset back_form f (sym e) in word_fits _ 1 255 k.stored k.range.1.0
+  back_fits d e = let k = whole_sound d line offset back_form f (sym e) in word_fits _ 1 255 k.stored k.range.1.0
 
-  pub move_fits : (form : List ℕ) → IsMove form → Ok f ≡ whole (block_digits 0) line offset form → word_at f.values 1 ≤ 255
-  move_fits form is_move e =
-      ⊎_elim (λ (g : form ≡ forward_form). forward_fits (e ∙ ap (whole (block_digits 0) line offset) g)) (λ (g : form ≡ back_form). back_fits (e ∙ ap (whole (block_digits 0) line offset) g)) is_move
+  pub move_fits : (d : ℕ) (form : List ℕ) → IsMove form → Ok f ≡ whole d line offset form → word_at f.values 1 ≤ 255
+  move_fits d form is_move e =
+      ⊎_elim (λ (g : form ≡ forward_form). forward_fits d (e ∙ ap (whole d line offset) g)) (λ (g : form ≡ back_form). back_fits d (e ∙ ap (whole d line offset) g)) is_move
 
 -- the values of a load's line
 abbrev pub key_in : List ℕ → ℕ
