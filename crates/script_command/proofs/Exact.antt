@@ -10,8 +10,9 @@ use lib.Dec.{T, eqb, ltb, lit<, lit≤}
 use lib.ListN.{length, drop, get_or}
 use lib.Seq.{get_or-drop}
 use borrow.Author.Tests.{ltb-false, le-ltb, eq-eqb, ne_eqb}
-use Rattle.std.specs.Prelude.{Option, Some, None}
+use Rattle.std.specs.Prelude.{Option, Some, None, Result, Ok, Err}
 use Rattle.std.specs.Option.{option_map, option_and_then}
+use Rattle.std.specs.Result.{result_ok}
 use Rattle.std.proofs.lemmas.Option.{same_Some}
 use Rattle.katan.specs.Bit.{pick}
 use Rattle.katan.specs.Key.{key_number}
@@ -58,9 +59,9 @@ record ReadBy (A : Type 0) (d : ℕ) (line : List ℕ) (offset : ℕ) (form : Li
 read_by : (A : Type 0) (d : ℕ) (line : List ℕ) (offset : ℕ) (form : List ℕ) (make : Values → A) (c : A) → made make (whole d line offset form) ≡ Some c → ReadBy A d line offset form make c
 read_by A d line offset form make c e = go (whole d line offset form) refl e
   where
-    go : (f : Option Fields) → whole d line offset form ≡ f → made make f ≡ Some c → ReadBy A d line offset form make c
-    go None g h = cc
-    go (Some f) g h =
+    go : (f : Result Fields Fields) → whole d line offset form ≡ f → made make f ≡ Some c → ReadBy A d line offset form make c
+    go (Err f) g h = cc
+    go (Ok f) g h =
         let k = whole_sound d line offset form f g in
         record { values = k.values; text = k.text; range = k.range; made = sym (ap make k.stored) ∙ same_Some (make f.values) c h }
 
@@ -128,9 +129,9 @@ module _ (v : ℕ) (line : List ℕ) (short : length line ≤ line_length) where
       unfolding move_in
       move_sound form make e = read_by Command (block_digits 0) line offset form (λ (x : Values). make (word_at x 0, word_at x 1)) c (sym (go (whole (block_digits 0) line offset form)) ∙ e)
         where
-          go : (f : Option Fields) → option_map make (made (λ (x : Values). (word_at x 0, word_at x 1)) f) ≡ made (λ (x : Values). make (word_at x 0, word_at x 1)) f
-          go None = refl
-          go (Some f) = refl
+          go : (f : Result Fields Fields) → option_map make (made (λ (x : Values). (word_at x 0, word_at x 1)) f) ≡ made (λ (x : Values). make (word_at x 0, word_at x 1)) f
+          go (Err f) = refl
+          go (Ok f) = refl
 
       forward_sound : forward_in n line offset ≡ Some c → IsLine v line c
       unfolding push
@@ -164,9 +165,9 @@ module _ (v : ℕ) (line : List ℕ) (short : length line ≤ line_length) where
     unfolding record_in
     numbered_sound c e = go (scan (block_digits 0) line (begin 0) front) refl e
       where
-        go : (f : Option Fields) → scan (block_digits 0) line (begin 0) front ≡ f → option_and_then (record_by v line) f ≡ Some c → IsLine v line c
-        go None g k = cc
-        go (Some f) g k = record_sound f.offset (word_at f.values 0) (head_sound line f (scan_sound (block_digits 0) line (begin 0) f front g)) c (get_or line f.offset 0) k
+        go : (f : Result Fields Fields) → scan (block_digits 0) line (begin 0) front ≡ f → option_and_then (record_by v line) (result_ok f) ≡ Some c → IsLine v line c
+        go (Err f) g k = cc
+        go (Ok f) g k = record_sound f.offset (word_at f.values 0) (head_sound line f (scan_sound (block_digits 0) line (begin 0) f front g)) c (get_or line f.offset 0) k
 
 sound : (v : ℕ) (line : List ℕ) (c : Command) → command_in v line ≡ Some c → IsLine v line c
 unfolding command_in
@@ -234,7 +235,7 @@ unfolding record_in value_of push
 choose v line n body short is_open small e =
     let text : line ≡ fill (block_digits 0) front (n ∷ []) ++ body = e ∙ sym (front_join (n ∷ []) body) in
     let o = 0 + length (fill (block_digits 0) front (n ∷ [])) in
-    let f : scan (block_digits 0) line (begin 0) front ≡ Some (at (store (block_digits 0) front (n ∷ []) zeros) o) = scan_complete (block_digits 0) line body zeros 0 front (n ∷ []) tt (small, tt) text in
+    let f : scan (block_digits 0) line (begin 0) front ≡ Ok (at (store (block_digits 0) front (n ∷ []) zeros) o) = scan_complete (block_digits 0) line body zeros 0 front (n ∷ []) tt (small, tt) text in
     let past : drop o line ≡ body = after_text line (fill (block_digits 0) front (n ∷ [])) body 0 _ text refl in
     let letter : get_or line o 0 ≡ get_or body 0 0 = ap (λ (i : ℕ). get_or line i 0) (sym (add-zero o)) ∙ sym (get_or-drop o line 0 0) ∙ ap (λ (l : List ℕ). get_or l 0 0) past in
     record {
@@ -242,7 +243,7 @@ choose v line n body short is_open small e =
       from = past;
       chosen =
           chosen_record v line short (no_letter line body n 98 e (lit≤ tt)) (variant_sound v is_open.0 is_open.1) (no_letter line body n 114 e (lit≤ tt))
-          ∙ ap (option_and_then (record_by v line)) f
+          ∙ ap (λ (r : Result Fields Fields). option_and_then (record_by v line) (result_ok r)) f
           ∙ ap (record_as v line o n) letter;
     }
 

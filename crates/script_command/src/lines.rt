@@ -11,7 +11,7 @@ use script_form::{fields_at, whole_at};
 fn bench_in(line: &[u8]) -> Option<Command>
     ensures { result ≡ bench_in line.now }
 {
-    let found = whole_at(b"(bench %)", line, 0, 0)?;
+    let found = whole_at(b"(bench %)", line, 0, 0).ok()?;
     let [variant, ..] = found.values.words;
     Some(Command::Bench {
         variant: variant as u8,
@@ -22,7 +22,7 @@ fn bench_in(line: &[u8]) -> Option<Command>
 fn read_in(line: &[u8]) -> Option<Command>
     ensures { result ≡ read_in line.now }
 {
-    let found = whole_at(b"(read %)", line, 0, 0)?;
+    let found = whole_at(b"(read %)", line, 0, 0).ok()?;
     let [lane, ..] = found.values.words;
     Some(Command::Read { lane: lane as u8 })
 }
@@ -31,7 +31,7 @@ fn read_in(line: &[u8]) -> Option<Command>
 fn record_in(line: &[u8], variant: u8) -> Option<Command>
     ensures { result ≡ record_in variant line.now }
 {
-    let front = fields_at(b"(# (", line, 0, 0)?;
+    let front = fields_at(b"(# (", line, 0, 0).ok()?;
     let [number, ..] = front.values.words;
     let rest = Reader {
         line,

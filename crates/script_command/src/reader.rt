@@ -30,7 +30,8 @@ impl<'a> Reader<'a> {
             self.line,
             self.offset,
             variant,
-        )?;
+        )
+        .ok()?;
         let [lane, position, high, low, block, ..] = found.values.words;
         let key = Key {
             low,
@@ -51,7 +52,7 @@ impl<'a> Reader<'a> {
         requires { IsMove form.now }
         ensures { result ≡ move_in form.now self.entry.line.now self.entry.offset }
     {
-        let found = whole_at(form, self.line, self.offset, 0)?;
+        let found = whole_at(form, self.line, self.offset, 0).ok()?;
         let [mask, count, ..] = found.values.words;
         Some((mask, count as u8))
     }
@@ -60,7 +61,7 @@ impl<'a> Reader<'a> {
     fn clear_in(self, number: u32) -> Option<Command>
         ensures { result ≡ clear_in number self.entry.line.now self.entry.offset }
     {
-        let found = whole_at(b"clear (lanes $)))", self.line, self.offset, 0)?;
+        let found = whole_at(b"clear (lanes $)))", self.line, self.offset, 0).ok()?;
         let [mask, ..] = found.values.words;
         Some(Command::Clear { number, mask })
     }

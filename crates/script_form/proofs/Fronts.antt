@@ -4,7 +4,7 @@ use Prim.Native.Nat.{ℕ, ◌+◌, ◌≤◌, ◌<◌}
 use mathlib.Core.Path.{◌≡◌, refl}
 use mathlib.Core.Bool.{Bool, true, false}
 use mathlib.Core.List.{List, [], ◌∷◌}
-use Rattle.std.specs.Prelude.{Option, Some, None}
+use Rattle.std.specs.Prelude.{Some, None, Result, Ok}
 use Rattle.std.specs.Option.{option_map, option_and_then}
 use Rattle.std.specs.List.{slice_get}
 use lib.Dec.{eqb}
@@ -13,7 +13,7 @@ use lib.Seq.{drop-cons}
 use native.Mathlib.Numerals.{add-one}
 use borrow.Author.Tests.{le-leb, eqb-true}
 use Rattle.katan.specs.Bit.{pick}
-use Rattle.script_form.specs.scanner.Scan.{run_in, exactly, word_of, words_of, decimal_of, decimal_in, digits_in, letter_in, advance, scan}
+use Rattle.script_form.specs.scanner.Scan.{run_in, exactly, word_of, words_of, decimal_of, decimal_in, digits_in, letter_in, and_then, advance, scan}
 use Rattle.script_form.specs.declared.Fields.{Fields}
 use Rattle.script_form.specs.declared.digits.Run.{Run}
 use Rattle.script_form.specs.declared.pieces.Step.TheVariants.{Letter, Field, Words}
@@ -55,11 +55,11 @@ key_front s = words_exact 4 (run_in 16 4 0 0 s) (run_in 16 16 0 0 (drop 4 s))
 
 -- the loop over a form
 module _ (d : ℕ) (line : List ℕ) (f : Fields) (form : List ℕ) (i : ℕ) where
-  pub scan_end : length form ≤ i → scan d line f (drop i form) ≡ Some f
+  pub scan_end : length form ≤ i → scan d line f (drop i form) ≡ Ok f
   unfolding scan
   scan_end h = rw (drop_of_length-le form h)
 
-  module _ (h : i < length form) (next : Option Fields) (e : next ≡ advance d line (get_or form i 0) f) where
-    pub scan_next : scan d line f (drop i form) ≡ option_and_then (λ (g : Fields). scan d line g (drop (i + 1) form)) next
+  module _ (h : i < length form) (next : Result Fields Fields) (e : next ≡ advance d line (get_or form i 0) f) where
+    pub scan_next : scan d line f (drop i form) ≡ and_then (λ (g : Fields). scan d line g (drop (i + 1) form)) next
     unfolding scan
     scan_next = rw (drop-cons form i 0 h, add-one i, e)

@@ -4,9 +4,8 @@ use Prim.Native.Nat.{ℕ, suc, ◌+◌, ◌*◌, ◌-◌, ◌/◌, ◌%◌, ◌^
 use mathlib.Core.Path.{◌≡◌, refl, sym, ap, ◌∙◌, subst}
 use mathlib.Core.Bool.{Bool, true, false}
 use mathlib.Core.List.{List, [], ◌∷◌, ◌++◌, append_assoc, append-nil}
-use Rattle.std.specs.Prelude.{Option, Some, None}
-use Rattle.std.specs.Option.{option_map, option_and_then}
-use Rattle.std.proofs.lemmas.Option.{same_Some}
+use Rattle.std.specs.Prelude.{Option, Some, None, Result, Ok, Err}
+use Rattle.std.specs.Option.{option_map, ok_or}
 use native.Mathlib.Nat.{add-zero, div-eq_of_lt, mod-eq_of_lt, mul-add-div_right, mul-add-mod_self_right}
 use native.Mathlib.Omega.{arith}
 use lib.Dec.{T, ltb, leb, eqb, leb→le}
@@ -17,7 +16,7 @@ use Rattle.katan.specs.Bit.{pick}
 use Rattle.katan.proofs.Tables.{both, both_left, both_right}
 use Rattle.script_form.specs.Digits.{decimal, hex}
 use Rattle.script_form.specs.Form.{Piece, letter, number, digits, piece_of, first, rest, fill, fill_piece, FieldsFit, fits_piece}
-use Rattle.script_form.specs.scanner.Scan.{value_of, run_in, decimal_in, digits_in, letter_in, piece_in, push, begin, after, advance, scan, ended, whole}
+use Rattle.script_form.specs.scanner.Scan.{value_of, run_in, decimal_in, digits_in, letter_in, piece_in, push, begin, after, and_then, advance, scan, ended, whole}
 use Rattle.script_form.specs.declared.pieces.Step.{Step}
 use Rattle.script_form.specs.declared.pieces.Step.TheVariants.{Letter, Field, Words}
 use Rattle.script_form.specs.declared.Values.{Values}
@@ -167,16 +166,16 @@ module _ (d : ℕ) (line : List ℕ) (f r : Fields) (p : ℕ) (ps : List ℕ) wh
       record { values = w.values; text = w.text; range = w.range; stored = w.stored }
 
   -- a form is found where its first byte is, and the rest after it
-  first_sound : (st : Option Step) → piece_in (piece_of d p) p s ≡ st → ((g : Fields) → scan d line g ps ≡ Some r → Scanned d line g r ps)
-      → option_and_then (λ (g : Fields). scan d line g ps) (option_map (after f) st) ≡ Some r → Scanned d line f r (p ∷ ps)
+  first_sound : (st : Option Step) → piece_in (piece_of d p) p s ≡ st → ((g : Fields) → scan d line g ps ≡ Ok r → Scanned d line g r ps)
+      → and_then (λ (g : Fields). scan d line g ps) (ok_or (option_map (after f) st) f) ≡ Ok r → Scanned d line f r (p ∷ ps)
   first_sound None e ih k = cc
   first_sound (Some st) e ih k = advance_sound st e (ih (after f st) k)
 
-pub scan_sound : (d : ℕ) (line : List ℕ) (f r : Fields) (form : List ℕ) → scan d line f form ≡ Some r → Scanned d line f r form
+pub scan_sound : (d : ℕ) (line : List ℕ) (f r : Fields) (form : List ℕ) → scan d line f form ≡ Ok r → Scanned d line f r form
 unfolding scan advance
-scan_sound d line f r [] e = subst (λ (g : Fields). Scanned d line f g []) (same_Some f r e) (record { values = []; text = refl; range = tt; stored = refl })
+scan_sound d line f r [] e = let same : f ≡ r = cc in subst (λ (g : Fields). Scanned d line f g []) same (record { values = []; text = refl; range = tt; stored = refl })
 scan_sound d line f r (p ∷ ps) e =
-    first_sound d line f r p ps (piece_in (piece_of d p) p (drop f.offset line)) refl (λ (g : Fields) (k : scan d line g ps ≡ Some r). scan_sound d line g r ps k) e
+    first_sound d line f r p ps (piece_in (piece_of d p) p (drop f.offset line)) refl (λ (g : Fields) (k : scan d line g ps ≡ Ok r). scan_sound d line g r ps k) e
 
 -- ---- complete
 
@@ -211,18 +210,18 @@ halts_fill d (p ∷ ps) ws t h = halt-piece (piece_of d p) p ws (λ (xs : List �
 abbrev pub at : Values → ℕ → Fields
 at x o = record { values = x; offset = o }
 
-same_at : (x : Values) (o o' : ℕ) → o ≡ o' → Some (at x o) ≡ Some (at x o')
-same_at x o o' e = ap (λ (i : ℕ). Some (at x i)) e
+same_at : (x : Values) (o o' : ℕ) → o ≡ o' → ◌≡◌ {A = Result Fields Fields} (Ok (at x o)) (Ok (at x o'))
+same_at x o o' e = ap (λ (i : ℕ). Ok (at x i)) e
 
 -- the rest of the line after a field's text
 pub after_text : (line t u : List ℕ) (o n : ℕ) → drop o line ≡ t ++ u → length t ≡ n → drop (o + n) line ≡ u
 after_text line t u o n e h = sym (drop-drop n o line) ∙ ap (drop n) e ∙ drop_at t u n h
 
 module _ (d : ℕ) (line more : List ℕ) (p : ℕ) (ps : List ℕ) (x : Values) (o : ℕ) (vs : List ℕ)
-    (ih : (y : Values) (k : ℕ) (ws : List ℕ) → T (ready d ps) → FieldsFit d ps ws → drop k line ≡ fill d ps ws ++ more → scan d line (at y k) ps ≡ Some (at (store d ps ws y) (k + length (fill d ps ws)))) where
+    (ih : (y : Values) (k : ℕ) (ws : List ℕ) → T (ready d ps) → FieldsFit d ps ws → drop k line ≡ fill d ps ws ++ more → scan d line (at y k) ps ≡ Ok (at (store d ps ws y) (k + length (fill d ps ws)))) where
   -- a field of n bytes is found, and the scan goes on behind it
   field_complete : (t : List ℕ) (n : ℕ) (y : Values) → length t ≡ n → drop o line ≡ (t ++ fill d ps (rest vs)) ++ more → T (ready d ps) → FieldsFit d ps (rest vs)
-      → scan d line (at y (o + n)) ps ≡ Some (at (store d ps (rest vs) y) (o + length (t ++ fill d ps (rest vs))))
+      → scan d line (at y (o + n)) ps ≡ Ok (at (store d ps (rest vs) y) (o + length (t ++ fill d ps (rest vs))))
   field_complete t n y e text r h =
       ih y (o + n) (rest vs) r h (after_text line t (fill d ps (rest vs) ++ more) o n (text ∙ append_assoc t (fill d ps (rest vs)) more) e)
       ∙ same_at (store d ps (rest vs) y) _ _ (omega (arith, e, length-append t (fill d ps (rest vs))))
@@ -232,12 +231,12 @@ module _ (d : ℕ) (line more : List ℕ) (p : ℕ) (ps : List ℕ) (x : Values)
   digits_after k v false = refl
 
   -- the scan goes on with what a piece finds
-  abbrev going : Option Step → Option Fields
-  going st = option_and_then (λ (g : Fields). scan d line g ps) (option_map (after (at x o)) st)
+  abbrev going : Option Step → Result Fields Fields
+  going st = and_then (λ (g : Fields). scan d line g ps) (ok_or (option_map (after (at x o)) st) (at x o))
 
   step_complete : (q : Piece) → T (ready_piece q (halting d ps) (ready d ps)) → fits_piece q vs (λ (ws : List ℕ). FieldsFit d ps ws)
       → drop o line ≡ fill_piece q p vs (λ (ws : List ℕ). fill d ps ws) ++ more
-      → going (piece_in q p (drop o line)) ≡ Some (at (store_piece q vs x (λ (ws : List ℕ) (y : Values). store d ps ws y)) (o + length (fill_piece q p vs (λ (ws : List ℕ). fill d ps ws))))
+      → going (piece_in q p (drop o line)) ≡ Ok (at (store_piece q vs x (λ (ws : List ℕ) (y : Values). store d ps ws y)) (o + length (fill_piece q p vs (λ (ws : List ℕ). fill d ps ws))))
   step_complete letter r h text =
       ap going (ap (letter_in p) text ∙ letter_complete p (fill d ps vs ++ more))
       ∙ ih x (o + 1) vs r h (after_text line (p ∷ []) (fill d ps vs ++ more) o 1 text refl)
@@ -258,7 +257,7 @@ module _ (d : ℕ) (line more : List ℕ) (p : ℕ) (ps : List ℕ) (x : Values)
       ∙ field_complete (hex k v) k (pushes k x v) (length-fixed 16 k v) text r h.1
 
 pub scan_complete : (d : ℕ) (line more : List ℕ) (x : Values) (o : ℕ) (form vs : List ℕ) → T (ready d form) → FieldsFit d form vs → drop o line ≡ fill d form vs ++ more
-    → scan d line (at x o) form ≡ Some (at (store d form vs x) (o + length (fill d form vs)))
+    → scan d line (at x o) form ≡ Ok (at (store d form vs x) (o + length (fill d form vs)))
 unfolding scan advance
 scan_complete d line more x o [] vs r h text = same_at x _ _ (omega arith)
 scan_complete d line more x o (p ∷ ps) vs r h text =
@@ -282,31 +281,31 @@ record Ended (line : List ℕ) (f r : Fields) : Type 0 where
   same : f ≡ r
   last : length line ≤ r.offset
 
-ended_sound : (line : List ℕ) (f r : Fields) → ended line f ≡ Some r → Ended line f r
+ended_sound : (line : List ℕ) (f r : Fields) → ended line f ≡ Ok r → Ended line f r
 ended_sound line f r e = go (leb (length line) f.offset) refl e
   where
-    go : (t : Bool) → leb (length line) f.offset ≡ t → pick t (Some f) None ≡ Some r → Ended line f r
-    go true g k = let s : f ≡ r = same_Some f r k in record { same = s; last = subst (λ (g : Fields). length line ≤ g.offset) s (leb-true (length line) f.offset g) }
+    go : (t : Bool) → leb (length line) f.offset ≡ t → pick t (Ok f) (Err f) ≡ Ok r → Ended line f r
+    go true g k = let s : f ≡ r = cc in record { same = s; last = subst (λ (g : Fields). length line ≤ g.offset) s (leb-true (length line) f.offset g) }
     go false g k = cc
 
-pub whole_sound : (d : ℕ) (line : List ℕ) (o : ℕ) (form : List ℕ) (r : Fields) → whole d line o form ≡ Some r → WholeLine d line o form r.values
+pub whole_sound : (d : ℕ) (line : List ℕ) (o : ℕ) (form : List ℕ) (r : Fields) → whole d line o form ≡ Ok r → WholeLine d line o form r.values
 unfolding whole
 whole_sound d line o form r e = go (scan d line (begin o) form) refl e
   where
-    go : (f : Option Fields) → scan d line (begin o) form ≡ f → option_and_then (ended line) f ≡ Some r → WholeLine d line o form r.values
-    go None g h = cc
-    go (Some f) g h =
+    go : (f : Result Fields Fields) → scan d line (begin o) form ≡ f → and_then (ended line) f ≡ Ok r → WholeLine d line o form r.values
+    go (Err f) g h = cc
+    go (Ok f) g h =
         let z = ended_sound line f r h in
-        let k = scan_sound d line (begin o) r form (g ∙ ap Some z.same) in
+        let k = scan_sound d line (begin o) r form (g ∙ ap Ok z.same) in
         let end : drop r.offset line ≡ [] = drop_of_length-le line z.last in
         record { values = k.values; text = k.text ∙ ap (fill d form k.values ++◌) end ∙ append-nil (fill d form k.values); range = k.range; stored = k.stored }
 
 pub whole_complete : (d : ℕ) (line : List ℕ) (o : ℕ) (form vs : List ℕ) → T (ready d form) → FieldsFit d form vs → drop o line ≡ fill d form vs
-    → whole d line o form ≡ Some (at (store d form vs zeros) (o + length (fill d form vs)))
+    → whole d line o form ≡ Ok (at (store d form vs zeros) (o + length (fill d form vs)))
 unfolding whole
 whole_complete d line o form vs r h text =
     let n : length line - o ≡ length (fill d form vs) = sym (length-drop o line) ∙ ap length text in
-    ap (option_and_then (ended line)) (scan_complete d line [] zeros o form vs r h (text ∙ sym (append-nil (fill d form vs))))
+    ap (and_then (ended line)) (scan_complete d line [] zeros o form vs r h (text ∙ sym (append-nil (fill d form vs))))
     ∙ rw (le-leb (length line) (o + length (fill d form vs)) (omega arith))
 
 -- ---- how long a filled form is

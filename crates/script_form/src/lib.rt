@@ -61,14 +61,14 @@ fn begun(offset: usize) -> Fields
     Fields { values, offset }
 }
 
-// One byte of a form further.
+// One byte of a form further; where it is not met, what had been found.
 #[tactic(auto, unfolding(crate::specs::scanner::Scan::advance))]
-fn advanced(line: &[u8], p: u8, digits: usize, found: Fields) -> Option<Fields>
+fn advanced(line: &[u8], p: u8, digits: usize, found: Fields) -> Result<Fields, Fields>
     requires { digits ≤ 16 }
     ensures { result ≡ advance digits line.now p found }
 {
     let Fields { values, offset } = found;
-    let next = match piece_in(rest_of(line, offset), p, digits)? {
+    let next = match piece_in(rest_of(line, offset), p, digits).ok_or(found)? {
         Step::Letter => Fields {
             values,
             offset: offset + 1,
@@ -82,11 +82,11 @@ fn advanced(line: &[u8], p: u8, digits: usize, found: Fields) -> Option<Fields>
             offset: offset + length,
         },
     };
-    Some(next)
+    Ok(next)
 }
 
-// A form, from an offset on, where a block has a variant's digits.
-pub fn fields_at(form: &[u8], line: &[u8], offset: usize, variant: u8) -> Option<Fields>
+// A form, from an offset on, where a block has a variant's digits. Where it is not met, what had been found, and the offset of what was not met.
+pub fn fields_at(form: &[u8], line: &[u8], offset: usize, variant: u8) -> Result<Fields, Fields>
     ensures { result ≡ scan (block_digits variant) line.now (begin offset) form.now }
 {
     let digits = block_digits(variant);
@@ -94,13 +94,18 @@ pub fn fields_at(form: &[u8], line: &[u8], offset: usize, variant: u8) -> Option
     for p in form {
         found = advanced(line, *p, digits, found)?;
     }
-    Some(found)
+    Ok(found)
 }
 
-// A form that goes from an offset to the end of the line.
+// A form that goes from an offset to the end of the line. Where the line goes on, what has been found.
 #[tactic(auto, unfolding(crate::specs::scanner::Scan::whole))]
-pub fn whole_at(form: &[u8], line: &[u8], offset: usize, variant: u8) -> Option<Fields>
+pub fn whole_at(form: &[u8], line: &[u8], offset: usize, variant: u8) -> Result<Fields, Fields>
     ensures { result ≡ whole (block_digits variant) line.now offset form.now }
 {
-    fields_at(form, line, offset, variant).filter(|found| line.len() <= found.offset)
+    let found = fields_at(form, line, offset, variant)?;
+    if line.len() <= found.offset {
+        Ok(found)
+    } else {
+        Err(found)
+    }
 }

@@ -1,8 +1,9 @@
 -- The reading of a line, from left to right: its first bytes choose the form, and the rest is read by it. A reader need not believe this file: Reads in
 -- specs/Reads says what the answer to every line must be, and proofs/Exact proves it.
 -- Assumes nothing.
-use Rattle.std.specs.Prelude.{ℕ, ◌≡◌, ◌⊎◌, List, Option, None, ltb, eqb, length, get_or}
+use Rattle.std.specs.Prelude.{ℕ, ◌≡◌, ◌⊎◌, List, Option, None, Result, ltb, eqb, length, get_or}
 use Rattle.std.specs.Option.{option_map, option_and_then}
+use Rattle.std.specs.Result.{result_ok}
 use Rattle.katan.specs.Bit.{pick}
 use Rattle.katan.specs.Checks.{variant_check}
 use Rattle.script_form.specs.Form.{bytes, block_digits}
@@ -39,8 +40,8 @@ abbrev pub IsMove : List ℕ → Type 0
 IsMove form = (form ≡ forward_form) ⊎ (form ≡ back_form)
 
 -- what is made of the values of a form, where that is found
-abbrev pub made : {A : Type 0} → (Values → A) → Option Fields → Option A
-made make = option_map (λ (f : Fields). make f.values)
+abbrev pub made : {A : Type 0} → (Values → A) → Result Fields Fields → Option A
+made make r = option_map (λ (f : Fields). make f.values) (result_ok r)
 
 -- only a load's form has a block: the others are read with the digits of no variant, 0
 unfoldable pub bench_in : List ℕ → Option Command
@@ -79,7 +80,7 @@ abbrev pub record_by : ℕ → List ℕ → Fields → Option Command
 record_by v line f = record_as v line f.offset (word_at f.values 0) (get_or line f.offset 0)
 
 unfoldable pub record_in : ℕ → List ℕ → Option Command
-record_in v line = option_and_then (record_by v line) (scan (block_digits 0) line (begin 0) front)
+record_in v line = option_and_then (record_by v line) (result_ok (scan (block_digits 0) line (begin 0) front))
 
 -- what a line is taken for on an open bench of variant v; v is 0 where none is open. The letter after the first parenthesis chooses: b; on an open bench
 -- also r, or a record's number

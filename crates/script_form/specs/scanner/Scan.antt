@@ -2,8 +2,8 @@
 -- answer to every line must be, and script_command's proofs/Exact proves it, by the laws in proofs/Scans: a form is found exactly where the line is the form
 -- filled with the values found.
 -- Assumes nothing.
-use Rattle.std.specs.Prelude.{ℕ, zero, suc, ◌+◌, ◌*◌, ◌-◌, List, [], ◌∷◌, Option, Some, None, ltb, leb, eqb, length, drop, get_or, set, replicate}
-use Rattle.std.specs.Option.{option_map, option_and_then}
+use Rattle.std.specs.Prelude.{ℕ, zero, suc, ◌+◌, ◌*◌, ◌-◌, List, [], ◌∷◌, Option, Some, None, Result, Ok, Err, ltb, leb, eqb, length, drop, get_or, set, replicate}
+use Rattle.std.specs.Option.{option_map, ok_or}
 use Rattle.katan.specs.Bit.{pick}
 use Rattle.script_form.specs.Form.{Piece, letter, number, digits, piece_of}
 use Rattle.script_form.specs.declared.digits.Run.{Run}
@@ -84,18 +84,23 @@ after f Letter = record { values = f.values; offset = f.offset + 1 }
 after f (Field v n) = record { values = push f.values v; offset = f.offset + n }
 after f (Words high low n) = record { values = push (push f.values high) low; offset = f.offset + n }
 
--- one byte of a form further, where a block has d digits
-unfoldable pub advance : ℕ → List ℕ → ℕ → Fields → Option Fields
-advance d line p f = option_map (after f) (piece_in (piece_of d p) p (drop f.offset line))
+-- one byte of a form further, where a block has d digits; where it is not met, what had been found
+unfoldable pub advance : ℕ → List ℕ → ℕ → Fields → Result Fields Fields
+advance d line p f = ok_or (option_map (after f) (piece_in (piece_of d p) p (drop f.offset line))) f
 
--- a form; none where a byte of it is not met
-unfoldable pub scan : ℕ → List ℕ → Fields → List ℕ → Option Fields
-scan d line f [] = Some f
-scan d line f (p ∷ ps) = option_and_then (λ (g : Fields). scan d line g ps) (advance d line p f)
+-- on from what has been found, unless a byte was not met
+abbrev pub and_then : (Fields → Result Fields Fields) → Result Fields Fields → Result Fields Fields
+and_then next (Ok f) = next f
+and_then next (Err f) = Err f
+
+-- a form; at the first byte of it that is not met, what had been found before that
+unfoldable pub scan : ℕ → List ℕ → Fields → List ℕ → Result Fields Fields
+scan d line f [] = Ok f
+scan d line f (p ∷ ps) = and_then (λ (g : Fields). scan d line g ps) (advance d line p f)
 
 -- a form that ends where the line does
-abbrev pub ended : List ℕ → Fields → Option Fields
-ended line f = pick (leb (length line) f.offset) (Some f) None
+abbrev pub ended : List ℕ → Fields → Result Fields Fields
+ended line f = pick (leb (length line) f.offset) (Ok f) (Err f)
 
-unfoldable pub whole : ℕ → List ℕ → ℕ → List ℕ → Option Fields
-whole d line offset form = option_and_then (ended line) (scan d line (begin offset) form)
+unfoldable pub whole : ℕ → List ℕ → ℕ → List ℕ → Result Fields Fields
+whole d line offset form = and_then (ended line) (scan d line (begin offset) form)

@@ -1,8 +1,8 @@
 use Prim.Native.Nat.{◌≤◌}
 use borrow.Author.Rules.{rules}
 use Rattle.script_form.specs.scanner.Scan.{word_at}
-use Rattle.script_command.proofs.Fits.{read_fits}
+use Rattle.script_command.proofs.Fits.{met, read_fits}
 use Rattle.script_command.proofs.lines.read_in.Goals as goal
 
 pub overflow_cast-result : goal.overflow_cast-result
-overflow_cast-result c = let h : word_at c.in_ok-found.found.values 0 ≤ 255 = read_fits c.args.line.now 0 _ c.in_ok-found.ensures in search rules
+overflow_cast-result c = let h : word_at c.in_ok-found.found.values 0 ≤ 255 = read_fits c.args.line.now 0 _ _ (met _ _ _ c.in_ok-found.ensures.value c.whole_at.ensures) in search rules
