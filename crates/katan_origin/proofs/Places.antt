@@ -4,7 +4,7 @@ use mathlib.Core.Path.{◌≡◌, refl, sym, ap, ap₂, subst, ◌∙◌}
 use Prim.Native.Nat.{ℕ, ◌+◌, ◌-◌, ◌*◌, ◌/◌, ◌^◌, ◌<◌, ◌≤◌}
 use native.Mathlib.Nat.{div-le_self, pow-le-pow_right}
 use native.Mathlib.Omega.{arith}
-use borrow.Author.Tests.{lt-ltb}
+use borrow.Author.Tests.{lt-ltb, le-ltb}
 use Rattle.katan.specs.Counter.{rounds}
 use Rattle.katan.specs.Clock.{fa, fb, registers, input_of}
 use Rattle.katan.specs.Key.{key_number}
@@ -22,13 +22,10 @@ use Rattle.katan_origin.specs.declared.chains.Traced.{Traced}
 use Rattle.katan_origin.proofs.Formulas.{same_traced}
 use Rattle.katan_origin.proofs.Followed.{fa_followed, fb_followed, place_few, fa_at_most, fb_at_most}
 
--- ---- the places of L1 lie in the block, on a row that is a variant's
+-- ---- a run's row is a variant's
 
 pub row_sound : (run : Run) → Sound run.row
 row_sound run = subst (λ (x : Row). Sound x) (sym run.is_row) (sound run.variant)
-
-pub in_block : (row : Row) → Sound row → (i t : ℕ) → i ≤ row.x1 → row.len2 + (i - t) < 2 ^ 64
-in_block row s i t h = omega (arith, s.top1, s.len1_fits, s.len2_fits)
 
 -- the block's bits by their number in the block
 module _ (row : Row) (x j : ℕ) where
@@ -38,15 +35,26 @@ module _ (row : Row) (x j : ℕ) where
   pub of_l2 : j < row.len2 → block_bit x j ≡ block_bit (registers row x).l2 j
   of_l2 h = same_traced (sym (bit-mod row.len2 x j h)) refl
 
+-- ---- the bit at a place: one that entered, or one of the block
+
+module _ (entered : ℕ → Traced) (l t i : ℕ) (a : Traced) where
+  pub came_in : i < t → a ≡ entered (t - 1 - i) → a ≡ place_at entered l t i
+  came_in h e = rw (lt-ltb i t h) e
+
+  pub was_there : t ≤ i → a ≡ block_bit l (i - t) → a ≡ place_at entered l t i
+  was_there h e = rw (le-ltb i t h) e
+
+-- ---- at the places of a clock, and what the formulas make of them
+
 module _ (clock : Clock) where
   abbrev run : Run
-  run = clock.run
+  run = clock.run.now
 
   abbrev t : ℕ
   t = clock.number.0
 
   abbrev key : ℕ
-  key = key_number clock.run.key
+  key = key_number clock.run.now.key
 
   abbrev pub l1_at : ℕ → Traced
   l1_at i = place_at (fb_at run.variant key run.block) (registers run.row run.block).l1 t i

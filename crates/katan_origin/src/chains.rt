@@ -1,10 +1,10 @@
 // fa and fb of a clock, followed back bit by bit: what enters L2 is made from bits that entered L1 earlier, what enters L1 from
 // bits that entered L2, down to the block. Nothing is remembered: a bit that is met twice is followed twice.
-ghost use Rattle.std.specs.Prelude.{◌≡◌, ℕ, ◌+◌, ◌-◌, ◌/◌, ◌^◌, ◌<◌, ◌≤◌};
+ghost use Rattle.std.specs.Prelude.{◌≡◌, ℕ, ◌+◌, ◌-◌, ◌^◌, ◌<◌, ◌≤◌};
 ghost use Rattle.katan.specs.Clock.{fa as fa_formula, fb as fb_formula, registers};
 ghost use Rattle.katan.specs.Key.{key_number};
 ghost use Rattle.katan.specs.Variant.{row_of};
-ghost use Rattle.katan_origin.specs.Chains.{xor_traced, and_traced, given, block_bit, place_at, clock_input, fa_at, fb_at};
+ghost use Rattle.katan_origin.specs.Chains.{xor_traced, and_traced, given, block_bit, clock_input, fa_at, fb_at};
 ghost use Rattle.katan_origin.specs.Origin.{last_clock};
 
 use katan::{ClockNumber, Key, RoundInput, RoundPosition, Row};
@@ -58,10 +58,10 @@ pub struct Run {
     ghost is_row: { row ≡ row_of variant },
 }
 
-// A clock of a run, at most the last that is answered.
+// A clock of a run, at most the last that is answered. The run is lent: a clock is passed on at each bit that is followed.
 #[derive(Clone, Copy)]
-pub struct Clock {
-    pub run: Run,
+pub struct Clock<'r> {
+    pub run: &'r Run,
     pub number: ClockNumber,
     ghost early: { number.0 ≤ last_clock },
 }
@@ -109,10 +109,28 @@ fn fb_of(
     y1 ^ (y2 ^ (y3 & y4) ^ (y5 & y6) ^ given(u.kb))
 }
 
-impl Clock {
+impl Run {
+    // The bit at place i of the block's L1, which begins at block bit len2.
+    fn bit_of_l1(&self, i: usize) -> Traced
+        requires { i ≤ self.now.row.x1 }
+        ensures { result ≡ block_bit (registers self.now.row self.now.block).l1 i }
+    {
+        block_bit(self.block, self.row.len2 + i)
+    }
+
+    // And of its L2, which begins at block bit 0.
+    fn bit_of_l2(&self, i: usize) -> Traced
+        requires { i ≤ self.now.row.y1 }
+        ensures { result ≡ block_bit (registers self.now.row self.now.block).l2 i }
+    {
+        block_bit(self.block, i)
+    }
+}
+
+impl<'r> Clock<'r> {
     // IR and the key bits of its round: a clock number becomes a position only through the row's clocks a round.
     fn input(self) -> RoundInput
-        ensures { result ≡ clock_input self.run.variant (key_number self.run.key) self.number.0 }
+        ensures { result ≡ clock_input self.entry.run.now.variant (key_number self.entry.run.now.key) self.entry.number.0 }
     {
         let clocks = self.run.row.clocks as usize;
         // It fits, as proved.
@@ -121,9 +139,9 @@ impl Clock {
     }
 
     // The clock at which the bit at place i entered its register.
-    fn entered(self, i: usize) -> Clock
+    fn entered(self, i: usize) -> Clock<'r>
         requires { i < self.number.0 }
-        ensures { (result.run ≡ self.run) × (result.number.0 ≡ self.number.0 - 1 - i) }
+        ensures { (result.run.now ≡ self.entry.run.now) × (result.number.0 ≡ self.entry.number.0 - 1 - i) }
     {
         Clock {
             run: self.run,
@@ -131,65 +149,81 @@ impl Clock {
         }
     }
 
-    // The bit at place i of L1: one that entered at an earlier clock, fb of that clock, or a bit of the block, whose L1 begins at
-    // block bit len2.
-    #[cycle(fa_fb)]
-    fn in_l1(self, i: usize) -> Traced
-        requires { i ≤ self.run.row.x1 }
-        ensures { result ≡ place_at (fb_at self.run.variant (key_number self.run.key) self.run.block) (registers self.run.row self.run.block).l1 self.number.0 i }
-    {
-        let t = self.number.0;
-        if i < t {
-            self.entered(i).fb()
-        } else {
-            block_bit(self.run.block, self.run.row.len2 + (i - t))
-        }
-    }
-
-    // The bit at place i of L2, which fa enters and which begins at block bit 0.
-    #[cycle(fa_fb)]
-    fn in_l2(self, i: usize) -> Traced
-        requires { i ≤ self.run.row.y1 }
-        ensures { result ≡ place_at (fa_at self.run.variant (key_number self.run.key) self.run.block) (registers self.run.row self.run.block).l2 self.number.0 i }
-    {
-        let t = self.number.0;
-        if i < t {
-            self.entered(i).fa()
-        } else {
-            block_bit(self.run.block, i - t)
-        }
-    }
-
-    // fa of the clock.
+    // fa of the clock. At each place of L1 stands a bit that entered at an earlier clock, fb of that clock, or a bit of the block. The
+    // lines repeat at each place, since fa and fb call each other and nothing else: a function of the place would stand between them.
     #[cycle(fa_fb)]
     pub fn fa(self) -> Traced
-        ensures { result ≡ fa_at self.run.variant (key_number self.run.key) self.run.block self.number.0 }
+        ensures { result ≡ fa_at self.entry.run.now.variant (key_number self.entry.run.now.key) self.entry.run.now.block self.entry.number.0 }
     {
-        let row = self.run.row;
-        fa_of(
-            self.in_l1(row.x1),
-            self.in_l1(row.x2),
-            self.in_l1(row.x3),
-            self.in_l1(row.x4),
-            self.in_l1(row.x5),
-            self.input(),
-        )
+        let t = self.number.0;
+        let run = self.run;
+        let row = &run.row;
+        let x1 = if row.x1 < t {
+            self.entered(row.x1).fb()
+        } else {
+            run.bit_of_l1(row.x1 - t)
+        };
+        let x2 = if row.x2 < t {
+            self.entered(row.x2).fb()
+        } else {
+            run.bit_of_l1(row.x2 - t)
+        };
+        let x3 = if row.x3 < t {
+            self.entered(row.x3).fb()
+        } else {
+            run.bit_of_l1(row.x3 - t)
+        };
+        let x4 = if row.x4 < t {
+            self.entered(row.x4).fb()
+        } else {
+            run.bit_of_l1(row.x4 - t)
+        };
+        let x5 = if row.x5 < t {
+            self.entered(row.x5).fb()
+        } else {
+            run.bit_of_l1(row.x5 - t)
+        };
+        fa_of(x1, x2, x3, x4, x5, self.input())
     }
 
-    // fb of the clock.
+    // fb of the clock, in the same way from the places of L2, which fa enters.
     #[cycle(fa_fb)]
     pub fn fb(self) -> Traced
-        ensures { result ≡ fb_at self.run.variant (key_number self.run.key) self.run.block self.number.0 }
+        ensures { result ≡ fb_at self.entry.run.now.variant (key_number self.entry.run.now.key) self.entry.run.now.block self.entry.number.0 }
     {
-        let row = self.run.row;
-        fb_of(
-            self.in_l2(row.y1),
-            self.in_l2(row.y2),
-            self.in_l2(row.y3),
-            self.in_l2(row.y4),
-            self.in_l2(row.y5),
-            self.in_l2(row.y6),
-            self.input(),
-        )
+        let t = self.number.0;
+        let run = self.run;
+        let row = &run.row;
+        let y1 = if row.y1 < t {
+            self.entered(row.y1).fa()
+        } else {
+            run.bit_of_l2(row.y1 - t)
+        };
+        let y2 = if row.y2 < t {
+            self.entered(row.y2).fa()
+        } else {
+            run.bit_of_l2(row.y2 - t)
+        };
+        let y3 = if row.y3 < t {
+            self.entered(row.y3).fa()
+        } else {
+            run.bit_of_l2(row.y3 - t)
+        };
+        let y4 = if row.y4 < t {
+            self.entered(row.y4).fa()
+        } else {
+            run.bit_of_l2(row.y4 - t)
+        };
+        let y5 = if row.y5 < t {
+            self.entered(row.y5).fa()
+        } else {
+            run.bit_of_l2(row.y5 - t)
+        };
+        let y6 = if row.y6 < t {
+            self.entered(row.y6).fa()
+        } else {
+            run.bit_of_l2(row.y6 - t)
+        };
+        fb_of(y1, y2, y3, y4, y5, y6, self.input())
     }
 }

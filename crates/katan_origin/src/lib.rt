@@ -23,8 +23,8 @@ pub struct ClockBits {
 const LAST_CLOCK: usize = 23;
 
 // Both bits of a clock, each by its chain.
-fn both_bits(clock: Clock) -> ClockBits
-    ensures { result ≡ origin_of clock.run.variant (key_number clock.run.key) clock.run.block clock.number.0 }
+fn both_bits(clock: Clock<'_>) -> ClockBits
+    ensures { result ≡ origin_of clock.entry.run.now.variant (key_number clock.entry.run.now.key) clock.entry.run.now.block clock.entry.number.0 }
 {
     let a = clock.fa();
     let b = clock.fb();
@@ -55,5 +55,8 @@ pub fn origin(variant: u8, key: &[u8], block: u64, clock: ClockNumber) -> Result
         key: katan_numbers::key_of(key),
         block,
     };
-    Ok(both_bits(Clock { run, number: clock }))
+    Ok(both_bits(Clock {
+        run: &run,
+        number: clock,
+    }))
 }

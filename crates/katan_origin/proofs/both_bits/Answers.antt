@@ -9,7 +9,7 @@ use Rattle.katan_origin.proofs.both_bits.Goals as goal
 pub overflow_add-result : goal.overflow_add-result
 overflow_add-result c =
     let clock = c.args.clock in
-    let s = clock.run in
+    let s = clock.run.now in
     record { fits = rw (c.fa-a.ensures, c.fb-b.ensures) (room_for_both s.variant (key_number s.key) s.block clock.number.0 clock.early) }
 
 abbrev together : Traced → Traced → ClockBits
