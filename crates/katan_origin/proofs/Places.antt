@@ -22,10 +22,13 @@ use Rattle.katan_origin.specs.declared.chains.Traced.{Traced}
 use Rattle.katan_origin.proofs.Formulas.{same_traced}
 use Rattle.katan_origin.proofs.Followed.{fa_followed, fb_followed, place_few, fa_at_most, fb_at_most}
 
--- ---- a run's row is a variant's
+-- ---- the places of L1 lie in the block, on a row that is a variant's
 
 pub row_sound : (run : Run) → Sound run.row
 row_sound run = subst (λ (x : Row). Sound x) (sym run.is_row) (sound run.variant)
+
+pub in_block : (row : Row) → Sound row → (i t : ℕ) → i ≤ row.x1 → row.len2 + (i - t) < 2 ^ 64
+in_block row s i t h = omega (arith, s.top1, s.len1_fits, s.len2_fits)
 
 -- the block's bits by their number in the block
 module _ (row : Row) (x j : ℕ) where
