@@ -21,9 +21,9 @@
  * reads and writes no other memory, and may be made from several threads at once on memory of their own. It does not
  * wipe its stack, where copies of keys may stay.
  *
- * Stack. A call needs up to 42 kB, measured on x86-64 without what a dynamic linker takes: katan_keystream 42,
- * katan_encrypt_many and katan_decrypt_many 40, katan_replay 36, katan_preview 31, katan_arrive 28, katan_read 13,
- * katan_screen 12, katan_origin 4, every other under 3.
+ * Stack. A call needs up to 45 kB, measured on x86-64 without what a dynamic linker takes: katan_replay 45,
+ * katan_keystream, katan_arrive and katan_preview 36, katan_encrypt_many and katan_decrypt_many 33, katan_read 8,
+ * katan_screen 7, every other under 3.
  * The archive calls the C library's memcpy and memset.
  */
 #ifndef KATAN_BENCH_H
