@@ -27,6 +27,11 @@ module _ {T E : Type 0} where
   some_there None e p q = let z = sym p ∙ q in cc
   some_there (Some y) e p q = let z = sym p ∙ q in cc
 
+-- ---- the lane at the place that is looked up
+
+pub lane_at : (b : Bench) {i : ℕ} (j : ℕ) {x : Option Loaded} → j ≡ i → get_or b.slots j None ≡ x → get_or b.slots i None ≡ x
+lane_at b j e q = rw e at q
+
 -- ---- the cases
 
 module _ (b : Bench) (i : ℕ) where

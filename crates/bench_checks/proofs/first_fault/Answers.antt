@@ -1,10 +1,12 @@
-use Rattle.std.proofs.Common.{ℕ, ◌≡◌, List, sym, subst, ◌∙◌}
+use Rattle.std.proofs.Common.{ℕ, ◌≡◌, List, sym, subst, ◌∙◌, rules}
+use mathlib.Core.Bool.{false}
 use Rattle.std.proofs.lemmas.Result.{err_from_is_err_and}
 use Rattle.katan.specs.Checks.{value, refused, checked}
 use Rattle.katan.proofs.Checked.{all_passed, no_fault_found, fault_found}
 use Rattle.bench_record.specs.declared.Record.{Record}
 use Rattle.bench_record.specs.Fields.{decode}
 use Rattle.bench_record.specs.Checks.{field_checks}
+use Rattle.bench.specs.Bench.{held_check}
 use Rattle.bench_checks.specs.Decision.{turn_view}
 use Rattle.bench_checks.proofs.Decisions.{refused_1, refused_2, refused_9_10, form_decides}
 use Rattle.bench_checks.proofs.first_fault.Goals as goal
@@ -14,7 +16,8 @@ returns-then-bad_bench c = refused_1 c.args.bench c.args.link c.args.sent.now (s
 
 pub returns-then-sent-ne-LENGTH : goal.returns-then-sent-ne-LENGTH
 returns-then-sent-ne-LENGTH c =
-    refused_2 c.args.bench c.args.link c.args.sent.now (sym c.bad_bench.ensures ∙ c.if-bad_bench.false) c.if-sent-ne-LENGTH.true
+    let sound : (held_check c.args.bench).fault ≡ false = search rules in
+    refused_2 c.args.bench c.args.link c.args.sent.now sound c.if-sent-ne-LENGTH.true
 
 pub returns-in_err-turn : goal.returns-in_err-turn
 returns-in_err-turn c =

@@ -1,3 +1,4 @@
+use mathlib.Core.Path.{◌∙◌}
 use native.Mathlib.Omega.{arith}
 use Rattle.bench.specs.Steps.{forward_lane, back_lane, forward_moved, back_moved}
 use Rattle.bench_moves.proofs.Sound.{held, held_in}
@@ -26,7 +27,7 @@ pub returns-in-Back-Some : goal.returns-in-Back-Some
 unfolding back_lane back_moved
 returns-in-Back-Some c =
     let a = c.in-Back-Some in
-    (simp (a.is-0, a.is-1, c.loaded_at-in-Back-Some.ensures, c.min-moved-in-Back-Some.ensures), simp (a.is-0, a.is-1) c.min-moved-in-Back-Some.ensures)
+    (simp (a.is-0, a.is-1, c.loaded_at-in-Back-Some.ensures, c.min-moved-in-Back-Some.ensures), simp (a.is-0, a.is-1) ((omega arith) ∙ c.min-moved-in-Back-Some.ensures))
 
 pub returns-in_default : goal.returns-in_default
 unfolding forward_lane forward_moved

@@ -1,6 +1,7 @@
 use mathlib.Core.Path.{◌≡◌, refl, sym, ◌∙◌}
 use mathlib.Core.Bool.{false}
 use borrow.Author.Rules.{rules}
+use Rattle.katan.specs.Checks.{variant_check}
 use Rattle.katan.proofs.Variants.{is_variant}
 use Rattle.bench_replay.proofs.Promise.{promise_1, promise_2, promise_run}
 use Rattle.bench_replay.proofs.replay.Goals as goal
@@ -14,8 +15,7 @@ returns-then-bad_variant c =
 pub returns-then-not-fits : goal.returns-then-not-fits
 returns-then-not-fits c =
     let a = c.args in
-    let known : c.bad_variant.result ≡ false = search rules in
-    let sound = sym c.bad_variant.ensures ∙ known in
+    let sound : (variant_check a.variant).fault ≡ false = search rules in
     let both = promise_2 a.variant a.calls.now a.out.now _ _ _ sound (sym c.fits.ensures ∙ c.if-not-fits.true) refl c.fresh_bench-bench.ensures refl in
     record { answer_value = both.0; out_after = both.1.0; bench_value = both.1.1.0; by_index = both.1.1.1 }
 

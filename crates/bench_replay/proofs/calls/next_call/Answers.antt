@@ -2,7 +2,7 @@ use mathlib.Core.Path.{◌≡◌, sym, ap, ap₂, ◌∙◌}
 use mathlib.Core.List.{List}
 use Prim.Native.Nat.{ℕ, ◌<◌, ◌≤◌}
 use native.Mathlib.Omega.{arith}
-use lib.ListN.{length, get_or, take, drop}
+use lib.ListN.{length, get_or, drop}
 use lib.Seq.{drop-drop}
 use borrow.Author.Rules.{rules}
 use Rattle.bench.specs.Calls.{arrival, reading}
@@ -34,7 +34,7 @@ returns-in_ok-sent-in-1 c =
     let within : call_size s ≤ length s = omega (arith, size, n, rest.4, split.0) in
     record {
       whole = whole_arrival s c.in-1.is within;
-      call = ap arrival (split.1 ∙ ap₂ (λ (m : ℕ) (r : List ℕ). take m r) n rest.2) ∙ sym (first_arrival s c.in-1.is);
+      call = ap arrival (cc) ∙ sym (first_arrival s c.in-1.is);
       after = split.2 ∙ ap₂ (λ (m : ℕ) (r : List ℕ). drop m r) n rest.2 ∙ drop-drop (call_number s) head_length s ∙ ap (λ (m : ℕ). drop m s) (sym size);
     }
 

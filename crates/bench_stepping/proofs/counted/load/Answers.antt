@@ -3,4 +3,4 @@ use Rattle.bench_stepping.proofs.counted.load.Goals as goal
 
 pub returns : goal.returns
 unfolding slots_as
-returns c = rw (c.from.ensures, c.loaded_by.ensures)
+returns c = simp (c.from.ensures, c.loaded_by.ensures)
