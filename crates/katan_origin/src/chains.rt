@@ -150,7 +150,7 @@ impl<'r> Clock<'r> {
     }
 
     // fa of the clock. At each place of L1 stands a bit that entered at an earlier clock, fb of that clock, or a bit of the block. The
-    // lines repeat at each place, since fa and fb call each other and nothing else: a function of the place would stand between them.
+    // lines repeat at each place: a function of the place would stand between fa and fb, which call each other directly.
     #[cycle(fa_fb)]
     pub fn fa(self) -> Traced
         ensures { result ≡ fa_at self.entry.run.now.variant (key_number self.entry.run.now.key) self.entry.run.now.block self.entry.number.0 }
